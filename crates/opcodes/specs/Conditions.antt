@@ -1,0 +1,59 @@
+-- The sixteen tests of opcodes $20 to $2F, each as its truth over N, Z, V and C (document 01; the manual's branch entries).
+-- Assumes nothing.
+use Prim.Native.Nat.{ℕ, zero, suc, _+_, _*_, _/_, _%_, _^_}
+use mathlib.Core.Bool.{Bool, true, false, not, _&&_, _||_}
+use mathlib.Core.List.{List, [], _∷_}
+use lib.ListN.{getD}
+use Rattle.registers.specs.Flags.{bit, low, one}
+use Rattle.registers.specs.declared.flags.Flags.{Flags}
+
+abbrev pub Test : Type 0
+Test = (n z v c : Bool) → Bool
+
+abbrev pub xor : Bool → Bool → Bool
+xor true b = not b
+xor false b = b
+
+-- the test of opcode $20 + k stands at k
+abbrev pub tests : List Test
+tests =
+    (λ n z v c. true) ∷ -- BRA
+    (λ n z v c. false) ∷ -- BRN
+    (λ n z v c. not (c || z)) ∷ -- BHI
+    (λ n z v c. c || z) ∷ -- BLS
+    (λ n z v c. not c) ∷ -- BCC, BHS
+    (λ n z v c. c) ∷ -- BCS, BLO
+    (λ n z v c. not z) ∷ -- BNE
+    (λ n z v c. z) ∷ -- BEQ
+    (λ n z v c. not v) ∷ -- BVC
+    (λ n z v c. v) ∷ -- BVS
+    (λ n z v c. not n) ∷ -- BPL
+    (λ n z v c. n) ∷ -- BMI
+    (λ n z v c. not (xor n v)) ∷ -- BGE
+    (λ n z v c. xor n v) ∷ -- BLT
+    (λ n z v c. not (z || xor n v)) ∷ -- BGT
+    (λ n z v c. z || xor n v) ∷ -- BLE
+    []
+
+-- bit i of a truth word is the test's truth at the index i = 8N + 4Z + 2V + C
+abbrev pub index : Flags → ℕ
+index f = 8 * one (f .n) + 4 * one (f .z) + 2 * one (f .v) + one (f .c)
+
+abbrev pub at : Test → ℕ → Bool
+at t i = t (bit 3 i) (bit 2 i) (bit 1 i) (low i)
+
+-- the lowest k bits of the truth word
+abbrev pub wordOf : Test → ℕ → ℕ
+wordOf t zero = 0
+wordOf t (suc k) = one (at t k) * 2 ^ k + wordOf t k
+
+abbrev pub wordsOf : List Test → List ℕ
+wordsOf [] = []
+wordsOf (t ∷ ts) = wordOf t 16 ∷ wordsOf ts
+
+unfoldable pub truthWords : List ℕ
+truthWords = wordsOf tests
+
+-- whether a test holds: its number is the low half-byte of its opcode
+unfoldable pub holdsOf : ℕ → Flags → Bool
+holdsOf k f = bit (index f) (getD truthWords (k % 16) 0)

@@ -1,0 +1,118 @@
+// An inner crate: the register set, the condition codes, 16-bit register arithmetic, and the two kinds of count.
+ghost use mathlib.Core.Path.{_≡_};
+ghost use Rattle.registers.specs.Registers.{resetOf, startOf, dataOf, accumulatorD, withData, withPc, withSp, withPcSp};
+
+pub mod flags; // the condition codes and their byte
+pub mod word; // sums and differences that wrap at 65,536
+
+// The words stand first, so that an answer that holds registers keeps each at one place.
+pub struct Registers {
+    pub x: u16,
+    pub y: u16,
+    pub sp: u16,
+    pub pc: u16,
+    pub a: u8,
+    pub b: u8,
+    pub flags: u8,
+}
+
+// The registers but for PC and SP: all that an instruction computes on.
+pub struct Data {
+    pub x: u16,
+    pub y: u16,
+    pub a: u8,
+    pub b: u8,
+    pub flags: u8,
+}
+
+// Cycles and stack bytes are counted apart: no sum or comparison crosses them.
+pub struct Cycles(pub u32);
+
+pub struct StackBytes(pub u16);
+
+impl Registers {
+    // Document 01's reset value.
+    pub const RESET: Registers = Registers {
+        x: 0,
+        y: 0,
+        sp: 0,
+        pc: 0,
+        a: 0,
+        b: 0,
+        flags: 0xd0,
+    };
+
+    pub fn reset() -> Registers
+        ensures { λ r. ⌜ r ≡ resetOf ⌝ }
+    {
+        Registers::RESET
+    }
+
+    // Document 01's named start: the data as given, PC at the entry, and SP below the two bytes of home, the last of which
+    // stands at the stack window's last address.
+    pub fn start(d: Data, entry: u16, last: u16) -> Registers
+        ensures { λ r. ⌜ r ≡ startOf d entry last ⌝ }
+    {
+        Registers {
+            x: d.x,
+            y: d.y,
+            sp: word::down(last, 2),
+            pc: entry,
+            a: d.a,
+            b: d.b,
+            flags: d.flags,
+        }
+    }
+
+    pub fn data(self) -> Data
+        ensures { λ r. ⌜ r ≡ dataOf self ⌝ }
+    {
+        Data {
+            x: self.x,
+            y: self.y,
+            a: self.a,
+            b: self.b,
+            flags: self.flags,
+        }
+    }
+
+    pub fn with_data(self, d: Data) -> Registers
+        ensures { λ r. ⌜ r ≡ withData self d ⌝ }
+    {
+        Registers {
+            x: d.x,
+            y: d.y,
+            sp: self.sp,
+            pc: self.pc,
+            a: d.a,
+            b: d.b,
+            flags: d.flags,
+        }
+    }
+
+    pub fn with_pc(self, pc: u16) -> Registers
+        ensures { λ r. ⌜ r ≡ withPc self pc ⌝ }
+    {
+        self.with_pc_sp(pc, self.sp)
+    }
+
+    pub fn with_sp(self, sp: u16) -> Registers
+        ensures { λ r. ⌜ r ≡ withSp self sp ⌝ }
+    {
+        self.with_pc_sp(self.pc, sp)
+    }
+
+    pub fn with_pc_sp(self, pc: u16, sp: u16) -> Registers
+        ensures { λ r. ⌜ r ≡ withPcSp self pc sp ⌝ }
+    {
+        Registers {
+            x: self.x,
+            y: self.y,
+            sp: sp,
+            pc: pc,
+            a: self.a,
+            b: self.b,
+            flags: self.flags,
+        }
+    }
+}
