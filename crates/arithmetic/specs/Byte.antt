@@ -4,14 +4,14 @@ use Prim.Native.Nat.{ℕ, _+_, _-_, _*_, _/_, _%_}
 use mathlib.Core.Bool.{Bool, true, false, not}
 use lib.Dec.{eqb}
 use lib.Bits.{bitAnd, bitOr, bitXor}
-use Rattle.registers.specs.Flags.{bit, low, one}
+use Rattle.registers.specs.Flags.{bit, low, one, xor}
 use Rattle.registers.specs.declared.flags.Flags.{Flags}
 use Rattle.opcodes.specs.declared.instruction.Unary.{Unary}
 use Rattle.opcodes.specs.declared.instruction.Unary.the-variants.{Neg, Com, Lsr, Ror, Asr, Asl, Rol, Dec, Inc, Clr}
 use Rattle.opcodes.specs.declared.instruction.Binary.{Binary}
 use Rattle.opcodes.specs.declared.instruction.Binary.the-variants.{Sub, Cmp, Sbc, And, Bit, Lda, Eor, Adc, Ora, Add}
 use Rattle.arithmetic.specs.declared.byte.ByteResult.{ByteResult}
-use Rattle.arithmetic.specs.Codes.{carry, borrow, overflowSum, overflowDifference, xor, withNzv, withNzvc, withHnzvc}
+use Rattle.arithmetic.specs.Codes.{carry, borrow, overflowSum, overflowDifference, withNzv, withNzvc, withHnzvc}
 
 abbrev pub result : ℕ → Flags → ByteResult
 result r f = record { value = r; flags = f }
@@ -40,7 +40,7 @@ tstOf m f = withNzvc f (bit 7 m) (eqb m 0) false false
 abbrev pub shifted8 : ℕ → Bool → Flags → ByteResult
 shifted8 r c f = result r (withNzvc f (bit 7 r) (eqb r 0) (xor (bit 7 r) c) c)
 
-unfoldable pub unaryOf : Unary → ℕ → Flags → ByteResult
+abbrev pub unaryOf : Unary → ℕ → Flags → ByteResult
 unaryOf Neg m f = let r = (256 - m) % 256 in result r (withNzvc f (bit 7 r) (eqb r 0) (eqb r 0x80) (not (eqb r 0)))
 unaryOf Com m f = let r = 255 - m in result r (withNzvc f (bit 7 r) (eqb r 0) false true)
 unaryOf Lsr m f = shifted8 (m / 2) (low m) f
@@ -56,7 +56,7 @@ abbrev pub logical : ℕ → Flags → ByteResult
 logical r f = result r (logic8Of r f)
 
 -- the accumulator x, the operand byte m: what the accumulator becomes. CMP and BIT leave it
-unfoldable pub binaryOf : Binary → ℕ → ℕ → Flags → ByteResult
+abbrev pub binaryOf : Binary → ℕ → ℕ → Flags → ByteResult
 binaryOf Sub x m f = sub8Of x m false f
 binaryOf Cmp x m f = result x (sub8Of x m false f .flags)
 binaryOf Sbc x m f = sub8Of x m (f .c) f
@@ -69,8 +69,8 @@ binaryOf Ora x m f = logical (bitOr x m) f
 binaryOf Add x m f = add8Of x m false f
 
 -- BSET: the bits of the mask are set in m. BCLR: they are cleared
-unfoldable pub bsetOf : ℕ → ℕ → Flags → ByteResult
+abbrev pub bsetOf : ℕ → ℕ → Flags → ByteResult
 bsetOf m mask f = logical (bitOr m mask) f
 
-unfoldable pub bclrOf : ℕ → ℕ → Flags → ByteResult
+abbrev pub bclrOf : ℕ → ℕ → Flags → ByteResult
 bclrOf m mask f = logical (bitAnd m (255 - mask)) f

@@ -23,9 +23,9 @@ overflowSum k x m r = ((bit k x && bit k m) && not (bit k r)) || ((not (bit k x)
 abbrev pub overflowDifference : ℕ → ℕ → ℕ → ℕ → Bool
 overflowDifference k x m r = ((bit k x && not (bit k m)) && not (bit k r)) || ((not (bit k x) && bit k m) && bit k r)
 
-abbrev pub xor : Bool → Bool → Bool
-xor true b = not b
-xor false b = b
+-- the overflow of a sum, of the three bits themselves; a difference has NOT m for m
+abbrev pub overflowBits : Bool → Bool → Bool → Bool
+overflowBits x m r = ((x && m) && not r) || ((not x && not m) && r)
 
 -- the condition codes with some of them changed
 abbrev pub withNzvc : Flags → Bool → Bool → Bool → Bool → Flags

@@ -3,10 +3,10 @@
 use Prim.Native.Nat.{ℕ, _+_, _-_, _*_, _/_, _%_}
 use mathlib.Core.Bool.{Bool, true, false}
 use lib.Dec.{eqb}
-use Rattle.registers.specs.Flags.{bit, low}
+use Rattle.registers.specs.Flags.{bit, low, xor}
 use Rattle.registers.specs.declared.flags.Flags.{Flags}
 use Rattle.arithmetic.specs.declared.word.WordResult.{WordResult}
-use Rattle.arithmetic.specs.Codes.{carry, borrow, overflowSum, overflowDifference, xor, withNzv, withNzvc, withC}
+use Rattle.arithmetic.specs.Codes.{carry, borrow, overflowSum, overflowDifference, withNzv, withNzvc, withC}
 
 abbrev pub result : ℕ → Flags → WordResult
 result r f = record { value = r; flags = f }
@@ -31,10 +31,10 @@ logic16Of r f = withNzv f (bit 15 r) (eqb r 0) false
 abbrev pub shifted16 : ℕ → Bool → Flags → WordResult
 shifted16 r c f = result r (withNzvc f (bit 15 r) (eqb r 0) (xor (bit 15 r) c) c)
 
-unfoldable pub asldOf : ℕ → Flags → WordResult
+abbrev pub asldOf : ℕ → Flags → WordResult
 asldOf d f = shifted16 (2 * d % 65536) (bit 15 d) f
 
-unfoldable pub lsrdOf : ℕ → Flags → WordResult
+abbrev pub lsrdOf : ℕ → Flags → WordResult
 lsrdOf d f = shifted16 (d / 2) (low d) f
 
 -- MUL: C is bit 7 of the product

@@ -1,38 +1,34 @@
 -- The sixteen tests of opcodes $20 to $2F, each as its truth over N, Z, V and C (document 01; the manual's branch entries).
 -- Assumes nothing.
-use Prim.Native.Nat.{ℕ, zero, suc, _+_, _*_, _/_, _%_, _^_}
-use mathlib.Core.Bool.{Bool, true, false, not, _&&_, _||_}
+use Prim.Native.Nat.{ℕ, zero, suc, _+_, _*_, _%_, _^_}
+use mathlib.Core.Bool.{Bool, true, false, not, _||_}
 use mathlib.Core.List.{List, [], _∷_}
 use lib.ListN.{getD}
-use Rattle.registers.specs.Flags.{bit, low, one}
+use Rattle.registers.specs.Flags.{bit, low, one, xor}
 use Rattle.registers.specs.declared.flags.Flags.{Flags}
 
 abbrev pub Test : Type 0
 Test = (n z v c : Bool) → Bool
 
-abbrev pub xor : Bool → Bool → Bool
-xor true b = not b
-xor false b = b
-
 -- the test of opcode $20 + k stands at k
 abbrev pub tests : List Test
 tests =
-    (λ n z v c. true) ∷ -- BRA
-    (λ n z v c. false) ∷ -- BRN
-    (λ n z v c. not (c || z)) ∷ -- BHI
-    (λ n z v c. c || z) ∷ -- BLS
-    (λ n z v c. not c) ∷ -- BCC, BHS
-    (λ n z v c. c) ∷ -- BCS, BLO
-    (λ n z v c. not z) ∷ -- BNE
-    (λ n z v c. z) ∷ -- BEQ
-    (λ n z v c. not v) ∷ -- BVC
-    (λ n z v c. v) ∷ -- BVS
-    (λ n z v c. not n) ∷ -- BPL
-    (λ n z v c. n) ∷ -- BMI
-    (λ n z v c. not (xor n v)) ∷ -- BGE
-    (λ n z v c. xor n v) ∷ -- BLT
-    (λ n z v c. not (z || xor n v)) ∷ -- BGT
-    (λ n z v c. z || xor n v) ∷ -- BLE
+    (λ n z v c. true) ∷  -- BRA
+    (λ n z v c. false) ∷  -- BRN
+    (λ n z v c. not (c || z)) ∷  -- BHI
+    (λ n z v c. c || z) ∷  -- BLS
+    (λ n z v c. not c) ∷  -- BCC, BHS
+    (λ n z v c. c) ∷  -- BCS, BLO
+    (λ n z v c. not z) ∷  -- BNE
+    (λ n z v c. z) ∷  -- BEQ
+    (λ n z v c. not v) ∷  -- BVC
+    (λ n z v c. v) ∷  -- BVS
+    (λ n z v c. not n) ∷  -- BPL
+    (λ n z v c. n) ∷  -- BMI
+    (λ n z v c. not (xor n v)) ∷  -- BGE
+    (λ n z v c. xor n v) ∷  -- BLT
+    (λ n z v c. not (z || xor n v)) ∷  -- BGT
+    (λ n z v c. z || xor n v) ∷  -- BLE
     []
 
 -- bit i of a truth word is the test's truth at the index i = 8N + 4Z + 2V + C

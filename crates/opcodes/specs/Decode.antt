@@ -11,6 +11,8 @@ use Rattle.opcodes.specs.declared.instruction.Mode.{Mode}
 use Rattle.opcodes.specs.declared.instruction.Mode.the-variants as Mode
 use Rattle.opcodes.specs.declared.instruction.Decoded.{Decoded}
 use Rattle.opcodes.specs.declared.instruction.Decoded.the-variants.{Instruction, Nothing}
+use Rattle.opcodes.specs.declared.decode.Found.{Found}
+use Rattle.opcodes.specs.declared.decode.Found.the-variants as Found
 use Rattle.opcodes.specs.Tables.{costAt, actionAt, modeAt}
 
 abbrev pub pick {ℓ} : {A : Type ℓ} → Bool → A → A → A
@@ -33,6 +35,11 @@ placeOf first second = pick (eqb (pageOf first) 0) first (pageOf first + second)
 unfoldable pub opcodeSize : ℕ → ℕ
 opcodeSize place = pick (ltb place 256) 1 2
 
+-- the place, the size of the opcode and the entry of the table, where an instruction is
+unfoldable pub foundOf : ℕ → ℕ → Found
+foundOf first second =
+    let p = placeOf first second in pick (eqb (costAt p) 0) Found.Nothing (Found.At p (opcodeSize p) (costAt p))
+
 abbrev pub wordOf : ℕ → ℕ → ℕ
 wordOf high low = high * 256 + low
 
@@ -52,6 +59,23 @@ operandOf Mode.MaskY u v w = Operand.Mask (Address.IndexedY u) v
 operandOf Mode.MaskBranchDirect u v w = Operand.MaskBranch (Address.Fixed u) v w
 operandOf Mode.MaskBranchX u v w = Operand.MaskBranch (Address.IndexedX u) v w
 operandOf Mode.MaskBranchY u v w = Operand.MaskBranch (Address.IndexedY u) v w
+
+-- how many bytes an operand of a mode has
+abbrev pub operandSize : Mode → ℕ
+operandSize Mode.Inherent = 0
+operandSize Mode.Immediate8 = 1
+operandSize Mode.Immediate16 = 2
+operandSize Mode.Direct = 1
+operandSize Mode.Extended = 2
+operandSize Mode.IndexedX = 1
+operandSize Mode.IndexedY = 1
+operandSize Mode.Relative = 1
+operandSize Mode.MaskDirect = 2
+operandSize Mode.MaskX = 2
+operandSize Mode.MaskY = 2
+operandSize Mode.MaskBranchDirect = 3
+operandSize Mode.MaskBranchX = 3
+operandSize Mode.MaskBranchY = 3
 
 -- the instruction of a place, whose operand's bytes are u, v and w
 unfoldable pub instructionOf : ℕ → ℕ → ℕ → ℕ → Decoded

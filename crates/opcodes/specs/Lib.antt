@@ -1,4 +1,6 @@
 pub mod Rows
 pub mod Tables
+pub mod Numbers
 pub mod Conditions
 pub mod Decode
+pub mod Form

@@ -1,7 +1,7 @@
 -- The condition codes and their byte: S X H I N Z V C from bit 7 to bit 0 (document 01, "The machine"; the manual, A.2 D).
 -- Assumes nothing.
 use Prim.Native.Nat.{ℕ, _+_, _*_, _/_, _%_, _^_}
-use mathlib.Core.Bool.{Bool, true, false}
+use mathlib.Core.Bool.{Bool, true, false, not}
 use lib.Dec.{eqb}
 use Rattle.registers.specs.declared.flags.Flags.{Flags}
 
@@ -17,6 +17,10 @@ low n = eqb (n % 2) 1
 abbrev pub one : Bool → ℕ
 one true = 1
 one false = 0
+
+abbrev pub xor : Bool → Bool → Bool
+xor true b = not b
+xor false b = b
 
 abbrev pub flagsOf : ℕ → Flags
 flagsOf n = record { s = bit 7 n; x = bit 6 n; h = bit 5 n; i = bit 4 n; n = bit 3 n; z = bit 2 n; v = bit 1 n; c = low n }

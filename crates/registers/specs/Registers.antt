@@ -1,6 +1,6 @@
 -- The register set, its start, and its parts (document 01, "The machine" and "Start").
 -- Assumes nothing.
-use Prim.Native.Nat.{ℕ, _+_, _*_}
+use Prim.Native.Nat.{ℕ, _+_, _*_, _/_, _%_}
 use Rattle.registers.specs.Word.{less}
 use Rattle.registers.specs.declared.Registers.{Registers}
 use Rattle.registers.specs.declared.Data.{Data}
@@ -20,6 +20,25 @@ dataOf r = record { x = r .x; y = r .y; a = r .a; b = r .b; flags = r .flags }
 -- D is A:B
 abbrev pub accumulatorD : Data → ℕ
 accumulatorD d = d .a * 256 + d .b
+
+-- a register and the flags changed
+abbrev pub withA : Data → ℕ → ℕ → Data
+withA d v f = record { x = d .x; y = d .y; a = v; b = d .b; flags = f }
+
+abbrev pub withB : Data → ℕ → ℕ → Data
+withB d v f = record { x = d .x; y = d .y; a = d .a; b = v; flags = f }
+
+abbrev pub withD : Data → ℕ → ℕ → Data
+withD d v f = record { x = d .x; y = d .y; a = v / 256; b = v % 256; flags = f }
+
+abbrev pub withX : Data → ℕ → ℕ → Data
+withX d v f = record { x = v; y = d .y; a = d .a; b = d .b; flags = f }
+
+abbrev pub withY : Data → ℕ → ℕ → Data
+withY d v f = record { x = d .x; y = v; a = d .a; b = d .b; flags = f }
+
+abbrev pub withFlags : Data → ℕ → Data
+withFlags d f = record { x = d .x; y = d .y; a = d .a; b = d .b; flags = f }
 
 abbrev pub withData : Registers → Data → Registers
 withData r d = record { x = d .x; y = d .y; sp = r .sp; pc = r .pc; a = d .a; b = d .b; flags = d .flags }

@@ -1,6 +1,6 @@
 // An inner crate: the register set, the condition codes, 16-bit register arithmetic, and the two kinds of count.
 ghost use mathlib.Core.Path.{_≡_};
-ghost use Rattle.registers.specs.Registers.{resetOf, startOf, dataOf, accumulatorD, withData, withPc, withSp, withPcSp};
+ghost use Rattle.registers.specs.Registers.{resetOf, startOf, dataOf, accumulatorD, withA, withB, withD, withX, withY, withFlags, withData, withPc, withSp, withPcSp};
 
 pub mod flags; // the condition codes and their byte
 pub mod word; // sums and differences that wrap at 65,536
@@ -29,6 +29,87 @@ pub struct Data {
 pub struct Cycles(pub u32);
 
 pub struct StackBytes(pub u16);
+
+impl Data {
+    // D is A:B.
+    pub fn d(self) -> u16
+        ensures { λ r. ⌜ r ≡ accumulatorD self ⌝ }
+    {
+        (self.a as u16) * 256 + (self.b as u16)
+    }
+
+    pub fn with_a(self, v: u8, flags: u8) -> Data
+        ensures { λ r. ⌜ r ≡ withA self v flags ⌝ }
+    {
+        Data {
+            x: self.x,
+            y: self.y,
+            a: v,
+            b: self.b,
+            flags: flags,
+        }
+    }
+
+    pub fn with_b(self, v: u8, flags: u8) -> Data
+        ensures { λ r. ⌜ r ≡ withB self v flags ⌝ }
+    {
+        Data {
+            x: self.x,
+            y: self.y,
+            a: self.a,
+            b: v,
+            flags: flags,
+        }
+    }
+
+    pub fn with_d(self, v: u16, flags: u8) -> Data
+        ensures { λ r. ⌜ r ≡ withD self v flags ⌝ }
+    {
+        Data {
+            x: self.x,
+            y: self.y,
+            a: (v / 256) as u8,
+            b: (v % 256) as u8,
+            flags: flags,
+        }
+    }
+
+    pub fn with_x(self, v: u16, flags: u8) -> Data
+        ensures { λ r. ⌜ r ≡ withX self v flags ⌝ }
+    {
+        Data {
+            x: v,
+            y: self.y,
+            a: self.a,
+            b: self.b,
+            flags: flags,
+        }
+    }
+
+    pub fn with_y(self, v: u16, flags: u8) -> Data
+        ensures { λ r. ⌜ r ≡ withY self v flags ⌝ }
+    {
+        Data {
+            x: self.x,
+            y: v,
+            a: self.a,
+            b: self.b,
+            flags: flags,
+        }
+    }
+
+    pub fn with_flags(self, flags: u8) -> Data
+        ensures { λ r. ⌜ r ≡ withFlags self flags ⌝ }
+    {
+        Data {
+            x: self.x,
+            y: self.y,
+            a: self.a,
+            b: self.b,
+            flags: flags,
+        }
+    }
+}
 
 impl Registers {
     // Document 01's reset value.

@@ -1,0 +1,13 @@
+-- `shifted` meets its contract: V is N ⊕ C.
+-- Assumes nothing.
+use borrow.Author.Needs.{needs}
+use mathlib.Core.Path.{_∙_}
+use Rattle.arithmetic.proofs.Bits.{differ-xor}
+use Rattle.arithmetic.proofs.byte.shifted.Statement.{statement}
+use Rattle.arithmetic.proofs.byte.shifted.Tie as tie
+
+returns : tie.Need-returns
+returns c = c .coded .ensures ∙ simp differ-xor
+
+pub shifted-spec : {M : Type 1} → statement M
+shifted-spec = tie.close (tie.spec (search needs) returns)

@@ -1,0 +1,32 @@
+-- `sub8` meets its contract: C is the borrow, and V that of a sum with m's sign bit turned round.
+-- Assumes nothing.
+use borrow.Author.Needs.{needs}
+use mathlib.Core.Bool.{Bool·not-not}
+use mathlib.Core.Path.{refl}
+use Prim.Native.Nat.{_+_, _-_, _%_}
+use native.Mathlib.Omega.{arith}
+use Rattle.registers.specs.Flags.{one}
+use Rattle.arithmetic.specs.Byte.{sub8Of}
+use Rattle.arithmetic.proofs.Carries.{borrow-test}
+use Rattle.arithmetic.proofs.byte.sub8.Statement.{statement}
+use Rattle.arithmetic.proofs.byte.sub8.Tie as tie
+
+returns : tie.Need-returns
+unfolding sub8Of
+returns c =
+    let a = c .before .before .before .args in
+    let less = a .m + one (a .borrow) in
+    simp (
+      c .coded .ensures,
+      c .before .overflow .ensures,
+      c .before .before .one .ensures .0,
+      Bool·not-not,
+      borrow-test 7 (a .x) (a .m) ((a .x + 256 - less) % 256) less (a .borrow) (omega arith) (omega arith) refl refl,
+    )
+
+pub sub8-spec : {M : Type 1} → statement M
+sub8-spec =
+    tie.close
+    (tie.spec
+    (search needs) (search needs) (search needs) (search needs) (search needs) (search needs) (search needs) (search needs)
+    returns)

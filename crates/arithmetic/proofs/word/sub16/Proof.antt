@@ -1,0 +1,25 @@
+-- `sub16` meets its contract: C is the borrow, and V that of a sum with m's sign bit turned round.
+-- Assumes nothing.
+use borrow.Author.Needs.{needs}
+use mathlib.Core.Bool.{false, Bool·not-not}
+use mathlib.Core.Path.{refl}
+use Prim.Native.Nat.{_+_, _-_, _%_}
+use native.Mathlib.Omega.{arith}
+use Rattle.arithmetic.specs.Word.{sub16Of}
+use Rattle.arithmetic.proofs.Carries.{borrow-test}
+use Rattle.arithmetic.proofs.word.sub16.Statement.{statement}
+use Rattle.arithmetic.proofs.word.sub16.Tie as tie
+
+returns : tie.Need-returns
+unfolding sub16Of
+returns c =
+    let a = c .before .before .args in
+    simp (
+      c .coded .ensures,
+      c .before .overflow .ensures,
+      Bool·not-not,
+      borrow-test 15 (a .x) (a .m) ((a .x + 65536 - a .m) % 65536) (a .m) false (omega arith) (omega arith) (omega arith) refl,
+    )
+
+pub sub16-spec : {M : Type 1} → statement M
+sub16-spec = tie.close (tie.spec (search needs) (search needs) (search needs) (search needs) (search needs) returns)

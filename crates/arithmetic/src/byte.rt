@@ -1,0 +1,149 @@
+// The operations on bytes, with their condition codes.
+ghost use mathlib.Core.Path.{_≡_};
+ghost use lib.Dec.{eqb};
+ghost use Rattle.registers.specs.Flags.{bit};
+ghost use Rattle.arithmetic.specs.Codes.{withNzvc};
+ghost use Rattle.arithmetic.specs.Byte.{result, add8Of, sub8Of, logic8Of, tstOf, shifted8, unaryOf, logical, binaryOf, bsetOf, bclrOf};
+use crate::codes::overflow;
+use crate::codes::with_hnzvc;
+use crate::codes::with_nzv;
+use crate::codes::with_nzvc;
+use opcodes::instruction::Binary;
+use opcodes::instruction::Unary;
+use registers::flags::Flags;
+use registers::flags::one;
+
+pub struct ByteResult {
+    pub value: u8,
+    pub flags: Flags,
+}
+
+// ADD, ADC, ABA. H and C are read off the sums of the low half-bytes and of the bytes.
+pub fn add8(x: u8, m: u8, carry: bool, f: Flags) -> ByteResult
+    ensures { λ r. ⌜ r ≡ add8Of x m carry f ⌝ }
+{
+    let k = one(carry);
+    let half = x % 16 + m % 16 + k;
+    let sum = (x as u16) + (m as u16) + (k as u16);
+    let r = (sum % 256) as u8;
+    let n = r / 128 % 2 == 1;
+    let v = overflow(x / 128 % 2 == 1, m / 128 % 2 == 1, n);
+    ByteResult {
+        value: r,
+        flags: with_hnzvc(f, 15 < half, n, r == 0, v, 255 < sum),
+    }
+}
+
+// The byte r with N and Z of it, and V and C as given.
+pub fn coded(r: u8, v: bool, c: bool, f: Flags) -> ByteResult
+    ensures { λ b. ⌜ b ≡ result r (withNzvc f (bit 7 r) (eqb r 0) v c) ⌝ }
+{
+    ByteResult {
+        value: r,
+        flags: with_nzvc(f, r / 128 % 2 == 1, r == 0, v, c),
+    }
+}
+
+// SUB, SBC, CMP, SBA, CBA. C says that what is taken away is more than x.
+pub fn sub8(x: u8, m: u8, borrow: bool, f: Flags) -> ByteResult
+    ensures { λ r. ⌜ r ≡ sub8Of x m borrow f ⌝ }
+{
+    let from = x as u16;
+    let less = (m as u16) + (one(borrow) as u16);
+    let r = ((from + 256 - less) % 256) as u8;
+    let m7 = m / 128 % 2 == 1;
+    let v = overflow(x / 128 % 2 == 1, !m7, r / 128 % 2 == 1);
+    coded(r, v, from < less, f)
+}
+
+// Loads, stores, transfers and the logical operations.
+pub fn logic8(r: u8, f: Flags) -> Flags
+    ensures { λ g. ⌜ g ≡ logic8Of r f ⌝ }
+{
+    with_nzv(f, r / 128 % 2 == 1, r == 0, false)
+}
+
+// TST clears C as well.
+pub fn tst(m: u8, f: Flags) -> Flags
+    ensures { λ g. ⌜ g ≡ tstOf m f ⌝ }
+{
+    with_nzvc(f, m / 128 % 2 == 1, m == 0, false, false)
+}
+
+// The byte r, out of which the bit c was shifted.
+fn shifted(r: u8, c: bool, f: Flags) -> ByteResult
+    ensures { λ b. ⌜ b ≡ shifted8 r c f ⌝ }
+{
+    coded(r, (r / 128 % 2 == 1) ^ c, c, f)
+}
+
+// The ten that make a byte of a byte.
+pub fn unary(u: Unary, m: u8, f: Flags) -> ByteResult
+    ensures { λ b. ⌜ b ≡ unaryOf u m f ⌝ }
+{
+    let w = m as u16;
+    let low = m % 2 == 1;
+    let high = m / 128 % 2 == 1;
+    let k = one(f.c);
+    match u {
+        Unary::Neg => {
+            let r = ((256 - w) % 256) as u8;
+            coded(r, r == 0x80, r != 0, f)
+        }
+        Unary::Com => coded(255 - m, false, true, f),
+        Unary::Lsr => shifted(m / 2, low, f),
+        Unary::Ror => shifted(m / 2 + 128 * k, low, f),
+        Unary::Asr => shifted(m / 2 + 128 * one(high), low, f),
+        Unary::Asl => shifted((2 * w % 256) as u8, high, f),
+        Unary::Rol => shifted(((2 * w + (k as u16)) % 256) as u8, high, f),
+        Unary::Dec => coded(((w + 255) % 256) as u8, m == 0x80, f.c, f),
+        Unary::Inc => coded(((w + 1) % 256) as u8, m == 0x7f, f.c, f),
+        Unary::Clr => coded(0, false, false, f),
+    }
+}
+
+// The byte r with the condition codes of the logical operations.
+fn logical8(r: u8, f: Flags) -> ByteResult
+    ensures { λ b. ⌜ b ≡ logical r f ⌝ }
+{
+    coded(r, false, f.c, f)
+}
+
+// The ten of an accumulator x and an operand byte m: what the accumulator becomes.
+pub fn binary(b: Binary, x: u8, m: u8, f: Flags) -> ByteResult
+    ensures { λ r. ⌜ r ≡ binaryOf b x m f ⌝ }
+{
+    match b {
+        Binary::Sub => sub8(x, m, false, f),
+        Binary::Cmp => {
+            let difference = sub8(x, m, false, f);
+            let g = difference.flags;
+            ByteResult { value: x, flags: g }
+        }
+        Binary::Sbc => sub8(x, m, f.c, f),
+        Binary::And => logical8(x & m, f),
+        Binary::Bit => ByteResult {
+            value: x,
+            flags: logic8(x & m, f),
+        },
+        Binary::Lda => logical8(m, f),
+        Binary::Eor => logical8(x ^ m, f),
+        Binary::Adc => add8(x, m, f.c, f),
+        Binary::Ora => logical8(x | m, f),
+        Binary::Add => add8(x, m, false, f),
+    }
+}
+
+// The bits of the mask are set in m.
+pub fn bset(m: u8, mask: u8, f: Flags) -> ByteResult
+    ensures { λ r. ⌜ r ≡ bsetOf m mask f ⌝ }
+{
+    logical8(m | mask, f)
+}
+
+// The bits of the mask are cleared in m.
+pub fn bclr(m: u8, mask: u8, f: Flags) -> ByteResult
+    ensures { λ r. ⌜ r ≡ bclrOf m mask f ⌝ }
+{
+    logical8(m & (255 - mask), f)
+}

@@ -1,0 +1,67 @@
+// Document 01's cases 8 to 12, and the two of routine P that a run answers. Its lines under "Further, run" are all the verdict's.
+use crate::print::ran;
+use crate::print::stepped;
+use crate::print::text;
+use registers::Data;
+use registers::Registers;
+use registers::word::up;
+use stepper::run;
+use stepper::step;
+
+// A byte goes to an address, where there is one.
+pub fn put(mem: &mut [u8], at: u16, v: u8) {
+    let i = at as usize;
+    if i < mem.len() {
+        mem[i] = v;
+    }
+}
+
+// PC is $8000, SP $01F2 below the home bytes at $01F3 and $01F4, and the flags are those of a reset.
+fn start(a: u8, b: u8, x: u16) -> Registers {
+    let d = Data {
+        x: x,
+        y: 0,
+        a: a,
+        b: b,
+        flags: 0xd0,
+    };
+    Registers::start(d, 0x8000, 0x01f4)
+}
+
+// One instruction of two bytes at most.
+fn one(name: &[u8], first: u8, second: u8, r: Registers) {
+    let mut mem = [0u8; 65536];
+    put(&mut mem, 0x8000, first);
+    put(&mut mem, 0x8001, second);
+    text(name);
+    stepped(step(r, &mut mem));
+}
+
+// Bytes go to the addresses from `at` on.
+fn load(mem: &mut [u8], at: u16, bytes: &[u8]) {
+    for i in 0..bytes.len() {
+        put(mem, up(at, (i % 65536) as u16), bytes[i]);
+    }
+}
+
+// Routine P from its start, with a budget.
+fn routine_p(name: &[u8], budget: u32) {
+    let mut mem = [0u8; 65536];
+    load(
+        &mut mem,
+        0x8000,
+        b"\x36\xbd\x80\x08\x32\x39\x01\x01\x97\x40\x39",
+    );
+    text(name);
+    ran(run(start(7, 0, 0), &mut mem, budget));
+}
+
+pub fn cases() {
+    routine_p(b"2  P, budget 26: ", 26);
+    routine_p(b"3  P, budget 25: ", 25);
+    one(b"8  ABA: ", 0x1b, 0, start(0x7f, 0x01, 0));
+    one(b"9  ABX: ", 0x3a, 0, start(0, 2, 0xffff));
+    one(b"10 ASLA: ", 0x48, 0, start(0x80, 0, 0));
+    one(b"11 IDIV: ", 0x02, 0, start(0, 7, 2));
+    one(b"12 BSR: ", 0x8d, 0xfe, start(0, 0, 0));
+}

@@ -1,0 +1,3 @@
+pub mod Rest
+pub mod Effects
+pub mod Branch

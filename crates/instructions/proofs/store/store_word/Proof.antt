@@ -1,0 +1,18 @@
+-- `store_word` meets its contract: what was called ensures the registers and the memory of the effect.
+-- Assumes nothing.
+use borrow.Author.Needs.{needs}
+use Rattle.instructions.proofs.Effects.{opened}
+use Rattle.instructions.proofs.store.store_word.Statement.{statement}
+use Rattle.instructions.proofs.store.store_word.Tie as tie
+
+pub store-word-spec : {M : Type 1} → statement M
+unfolding opened
+store-word-spec =
+    tie.close
+    (tie.spec
+    (search needs)
+    (search needs)
+    (search needs)
+    (search needs) (search needs)
+    (search needs) (search needs)
+    (λ c. (simp (c .with-data .ensures, c .before .tested-word .ensures, c .before .before .before .before .put-word .ensures .0, c .before .before .before .before .before .operand-address .ensures, c .before .before .before .before .before .before .before .word .ensures, c .before .before .before .before .before .before .before .before .«data» .ensures), cc)))

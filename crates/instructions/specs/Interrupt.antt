@@ -1,0 +1,39 @@
+-- SWI and RTI: the nine bytes of the registers on the stack, PC's low byte highest, the condition codes lowest (the manual's SWI and RTI entries).
+-- Assumes nothing.
+use Prim.Native.Nat.{ℕ}
+use mathlib.Core.Bool.{true}
+use mathlib.Core.List.{List, [], _∷_, _++_}
+use Rattle.registers.specs.Word.{plus, less}
+use Rattle.registers.specs.declared.Registers.{Registers}
+use Rattle.memory.specs.Memory.{byteAt, wordAt, Store, store, pushStores, applied}
+use Rattle.instructions.specs.Inherent.{withI, replaced}
+
+unfoldable pub stackedOf : Registers → List Store
+stackedOf r =
+    pushStores (r .sp) (r .pc) ++ pushStores (less (r .sp) 2) (r .y) ++ pushStores (less (r .sp) 4) (r .x)
+    ++ store (less (r .sp) 6) (r .a) ∷ store (less (r .sp) 7) (r .b) ∷ store (less (r .sp) 8) (r .flags) ∷ []
+
+-- the vector is read after the stores. The flags that are stacked are those before I is set
+unfoldable pub interruptedOf : Registers → List ℕ → Registers
+interruptedOf r m =
+    record {
+      x = r .x;
+      y = r .y;
+      sp = less (r .sp) 9;
+      pc = wordAt (applied (stackedOf r) m) 0xfff6;
+      a = r .a;
+      b = r .b;
+      flags = withI (r .flags) true;
+    }
+
+unfoldable pub resumedOf : Registers → List ℕ → Registers
+resumedOf r m =
+    record {
+      x = wordAt m (plus (r .sp) 4);
+      y = wordAt m (plus (r .sp) 6);
+      sp = plus (r .sp) 9;
+      pc = wordAt m (plus (r .sp) 8);
+      a = byteAt m (plus (r .sp) 3);
+      b = byteAt m (plus (r .sp) 2);
+      flags = replaced (byteAt m (plus (r .sp) 1)) (r .flags);
+    }

@@ -1,0 +1,5 @@
+pub mod Operand
+pub mod Inherent
+pub mod Outcome
+pub mod Interrupt
+pub mod Effect

@@ -1,0 +1,66 @@
+// SWI and RTI: all the registers onto the stack, and back.
+ghost use mathlib.Core.Path.{_≡_};
+ghost use lib.ListN.{length};
+ghost use Rattle.registers.specs.Word.{less};
+ghost use Rattle.memory.specs.Memory.{withPushed, applied};
+ghost use Rattle.instructions.specs.Interrupt.{stackedOf, interruptedOf, resumedOf};
+use crate::inherent::replaced;
+use crate::inherent::with_i;
+use memory::byte_at;
+use memory::push_word;
+use memory::put_byte;
+use memory::word_at;
+use registers::Registers;
+use registers::word::down;
+use registers::word::up;
+
+// PC, Y and X: the first six of the nine bytes.
+fn stack_words(r: Registers, mem: &mut [u8])
+    requires { ⌜ length (now mem) ≡ 65536 ⌝ }
+    ensures { λ _. ⌜ (now (mem .exit) ≡ withPushed (withPushed (withPushed (now (mem .entry)) (r .sp) (r .pc)) (less (r .sp) 2) (r .y)) (less (r .sp) 4) (r .x)) × (length (now (mem .exit)) ≡ 65536) ⌝ }
+{
+    push_word(mem, r.sp, r.pc);
+    push_word(mem, down(r.sp, 2), r.y);
+    push_word(mem, down(r.sp, 4), r.x);
+}
+
+fn stack_all(r: Registers, mem: &mut [u8])
+    requires { ⌜ length (now mem) ≡ 65536 ⌝ }
+    ensures { λ _. ⌜ (now (mem .exit) ≡ applied (stackedOf r) (now (mem .entry))) × (length (now (mem .exit)) ≡ 65536) ⌝ }
+{
+    stack_words(r, mem);
+    put_byte(mem, down(r.sp, 6), r.a);
+    put_byte(mem, down(r.sp, 7), r.b);
+    put_byte(mem, down(r.sp, 8), r.flags);
+}
+
+pub fn interrupt(r: Registers, mem: &mut [u8]) -> Registers
+    requires { ⌜ length (now mem) ≡ 65536 ⌝ }
+    ensures { λ q. ⌜ (q ≡ interruptedOf r (now (mem .entry))) × (now (mem .exit) ≡ applied (stackedOf r) (now (mem .entry))) ⌝ }
+{
+    stack_all(r, mem);
+    Registers {
+        x: r.x,
+        y: r.y,
+        sp: down(r.sp, 9),
+        pc: word_at(mem, 0xfff6),
+        a: r.a,
+        b: r.b,
+        flags: with_i(r.flags, true),
+    }
+}
+
+pub fn resume(r: Registers, mem: &[u8]) -> Registers
+    requires { ⌜ length (now mem) ≡ 65536 ⌝ }
+    ensures { λ q. ⌜ q ≡ resumedOf r (now (mem .entry)) ⌝ }
+{
+    Registers {
+        x: word_at(mem, up(r.sp, 4)),
+        y: word_at(mem, up(r.sp, 6)),
+        sp: up(r.sp, 9),
+        pc: word_at(mem, up(r.sp, 8)),
+        a: byte_at(mem, up(r.sp, 3)),
+        b: byte_at(mem, up(r.sp, 2)),
+        flags: replaced(byte_at(mem, up(r.sp, 1)), r.flags),
+    }
+}

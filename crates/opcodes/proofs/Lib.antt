@@ -1,0 +1,11 @@
+pub mod Order
+pub mod Missed
+pub mod Every
+pub mod Rule
+pub mod Size
+pub mod Index
+pub mod Truth
+pub mod Lent
+pub mod Prefix
+pub mod Says
+pub mod Local

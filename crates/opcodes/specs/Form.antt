@@ -1,0 +1,110 @@
+-- The form of an instruction, from its action, its operand and the address after it: what it does to PC, SP and memory.
+-- The step takes PC, SP and the addresses that are written from it, and so will the ticket rules (document 01, "Rules at a mark").
+-- Assumes nothing.
+use Prim.Native.Nat.{ℕ, _+_, _%_}
+use mathlib.Core.Bool.{Bool, true, false}
+use lib.Dec.{eqb, ltb}
+use Rattle.registers.specs.Word.{plus}
+use Rattle.opcodes.specs.Decode.{pick}
+use Rattle.opcodes.specs.declared.instruction.Action.{Action}
+use Rattle.opcodes.specs.declared.instruction.Action.the-variants.{Inherent, Unary, TstAccumulator, Binary, TstMemory, LoadWord, Addd, Subd, CompareWord, StoreByte, StoreWord, Modify, Bset, Bclr, Brset, Brclr, Branch, Jmp, Call, Rts, PushByte, PushWord, PullByte, PullWord, Des, Ins, SetStack, Swi, Rti, Wai, Stop, Test}
+use Rattle.opcodes.specs.declared.instruction.Word.{Word}
+use Rattle.opcodes.specs.declared.instruction.Word.the-variants as Wd
+use Rattle.opcodes.specs.declared.instruction.Address.{Address}
+use Rattle.opcodes.specs.declared.instruction.Address.the-variants.{Fixed, IndexedX, IndexedY}
+use Rattle.opcodes.specs.declared.instruction.Operand.{Operand}
+use Rattle.opcodes.specs.declared.instruction.Operand.the-variants as Operand
+use Rattle.opcodes.specs.declared.form.Form.{Form}
+use Rattle.opcodes.specs.declared.form.Form.the-variants.{Computes, StoresByte, StoresWord, PushesByte, PushesWord, PullsByte, PullsWord, Reserves, Releases, Branches, Jumps, Calls, Returns, MovesSp, Interrupts, Resumes, Waits}
+
+-- a relative offset is signed, and counts from the next instruction
+unfoldable pub targetOf : ℕ → ℕ → ℕ
+targetOf next d = pick (ltb d 128) (plus next d) (plus next (d + 0xff00))
+
+-- where the operand stands, or where a jump goes. An inherent or immediate operand names no address
+unfoldable pub addressIn : Operand → ℕ → Address
+addressIn Operand.Inherent next = Fixed 0
+addressIn (Operand.Immediate v) next = Fixed 0
+addressIn (Operand.Direct d) next = Fixed d
+addressIn (Operand.Extended a) next = Fixed a
+addressIn (Operand.IndexedX d) next = IndexedX d
+addressIn (Operand.IndexedY d) next = IndexedY d
+addressIn (Operand.Relative d) next = Fixed (targetOf next d)
+addressIn (Operand.Mask a k) next = a
+addressIn (Operand.MaskBranch a k d) next = a
+
+-- where a branch goes. An operand without an offset branches nowhere
+unfoldable pub targetIn : Operand → ℕ → ℕ
+targetIn Operand.Inherent next = next
+targetIn (Operand.Immediate v) next = next
+targetIn (Operand.Direct d) next = next
+targetIn (Operand.Extended a) next = next
+targetIn (Operand.IndexedX d) next = next
+targetIn (Operand.IndexedY d) next = next
+targetIn (Operand.Relative d) next = targetOf next d
+targetIn (Operand.Mask a k) next = next
+targetIn (Operand.MaskBranch a k d) next = targetOf next d
+
+-- BRA always branches and BRN never; the others go both ways
+abbrev pub branchForm : ℕ → ℕ → Form
+branchForm k target = pick (eqb k 0) (Jumps (Fixed target)) (pick (eqb k 1) Computes (Branches target))
+
+abbrev pub loadForm : Word → Form
+loadForm Wd.D = Computes
+loadForm Wd.X = Computes
+loadForm Wd.Y = Computes
+loadForm Wd.S = MovesSp
+
+unfoldable pub formOf : Action → Operand → ℕ → Form
+formOf (Inherent i) o next = Computes
+formOf (Unary u c) o next = Computes
+formOf (TstAccumulator c) o next = Computes
+formOf (Binary b c) o next = Computes
+formOf TstMemory o next = Computes
+formOf (LoadWord w) o next = loadForm w
+formOf Addd o next = Computes
+formOf Subd o next = Computes
+formOf (CompareWord w) o next = Computes
+formOf (StoreByte c) o next = StoresByte (addressIn o next)
+formOf (StoreWord w) o next = StoresWord (addressIn o next)
+formOf (Modify u) o next = StoresByte (addressIn o next)
+formOf Bset o next = StoresByte (addressIn o next)
+formOf Bclr o next = StoresByte (addressIn o next)
+formOf Brset o next = Branches (targetIn o next)
+formOf Brclr o next = Branches (targetIn o next)
+formOf (Branch k) o next = branchForm (k % 16) (targetIn o next)
+formOf Jmp o next = Jumps (addressIn o next)
+formOf Call o next = Calls (addressIn o next)
+formOf Rts o next = Returns
+formOf (PushByte c) o next = PushesByte
+formOf (PushWord i) o next = PushesWord
+formOf (PullByte c) o next = PullsByte
+formOf (PullWord i) o next = PullsWord
+formOf Des o next = Reserves
+formOf Ins o next = Releases
+formOf (SetStack i) o next = MovesSp
+formOf Swi o next = Interrupts
+formOf Rti o next = Resumes
+formOf Wai o next = Waits
+formOf Stop o next = Waits
+formOf Test o next = Waits
+
+-- the instructions that a step refuses with 23
+abbrev pub waits : Form → Bool
+waits Computes = false
+waits (StoresByte p) = false
+waits (StoresWord p) = false
+waits PushesByte = false
+waits PushesWord = false
+waits PullsByte = false
+waits PullsWord = false
+waits Reserves = false
+waits Releases = false
+waits (Branches t) = false
+waits (Jumps p) = false
+waits (Calls p) = false
+waits Returns = false
+waits MovesSp = false
+waits Interrupts = false
+waits Resumes = false
+waits Waits = true

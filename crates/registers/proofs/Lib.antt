@@ -1,0 +1,3 @@
+pub mod Wrap
+pub mod Bits
+pub mod FlagsByte

@@ -1,0 +1,50 @@
+-- Every instruction that is done takes 2 cycles or more.
+-- Assumes nothing.
+use mathlib.Core.Path.{_≡_, refl, ap, subst}
+use mathlib.Core.Bool.{Bool, true, false}
+use mathlib.Core.List.{List}
+use mathlib.Core.Logic.{⊎-elim}
+use Prim.Native.Nat.{ℕ, _≤_}
+use native.Mathlib.Omega.{arith}
+use lib.Dec.{eqb}
+use lib.ListN.{length}
+use borrow.Author.Tests.{eq-eqb}
+use Rattle.registers.specs.declared.Cycles.{Cycles}
+use Rattle.registers.specs.declared.Registers.{Registers}
+use Rattle.opcodes.proofs.Rule.{ruled-at-all}
+use Rattle.opcodes.specs.Tables.{costAt, lengthAt, cyclesAt}
+use Rattle.opcodes.specs.Decode.{Bytes, placeIn, decodeAt}
+use Rattle.opcodes.specs.Form.{formOf, waits}
+use Rattle.opcodes.specs.declared.instruction.Decoded.{Decoded}
+use Rattle.opcodes.specs.declared.instruction.Decoded.the-variants.{Instruction, Nothing}
+use Rattle.registers.specs.Word.{plus}
+use Rattle.registers.specs.Registers.{withPc}
+use Rattle.stepper.specs.Answer.{Answer, done}
+use Rattle.instructions.specs.Effect.{Effect, effectOf}
+use Rattle.stepper.specs.Step.{fetched, executed, carriedOut, didIf, didOf, after, stepOf}
+
+none-there : (p : ℕ) (f : Bytes) → costAt p ≡ 0 → decodeAt p f ≡ Nothing
+unfolding decodeAt
+none-there p f z = simp (eq-eqb _ _ z)
+
+module _ (r : Registers) (m : List ℕ) (q : Registers) (k : Cycles) where
+  by-wait : (b : Bool) (e : Effect) (c : ℕ) → after (executed b (r .pc) e c) m .answer ≡ done q k → c ≡ k .0
+  by-wait true e c s = let z : _≡_ {A = ℕ} 0 1 = cc in absurd (omega (arith, z))
+  by-wait false e c s = ap (λ (x : Cycles). x .0) (cc)
+
+  carried : (p : ℕ) (f : Bytes) (d : Decoded) → decodeAt p f ≡ d → after (carriedOut p d r m) m .answer ≡ done q k → 2 ≤ k .0
+  unfolding carriedOut
+  carried p f Nothing e s = let z : _≡_ {A = ℕ} 0 1 = cc in absurd (omega (arith, z))
+  carried p f (Instruction a o) e s =
+      let next = withPc r (plus (r .pc) (lengthAt p)) in
+      let same = by-wait (waits (formOf a o (next .pc))) (effectOf a o next m) (cyclesAt p) s in
+      ⊎-elim (λ w. let n = none-there p f w in let z : _≡_ {A = ℕ} 0 1 = cc in absurd (omega (arith, z)))
+      (λ w. subst (λ (x : ℕ). 2 ≤ x) same (w .2)) (ruled-at-all p)
+
+  by-length : (b : Bool) → after (didIf b r m) m .answer ≡ done q k → 2 ≤ k .0
+  by-length true s = let f = fetched m (r .pc) in carried (placeIn f) f (decodeAt (placeIn f) f) refl s
+  by-length false s = let z : _≡_ {A = ℕ} 0 1 = cc in absurd (omega (arith, z))
+
+  pub step-cost : stepOf r m .answer ≡ done q k → 2 ≤ k .0
+  unfolding stepOf didOf
+  step-cost s = by-length (eqb (length m) 65536) s

@@ -1,0 +1,6 @@
+pub mod Answer
+pub mod Step
+pub mod Run
+pub mod Advance
+pub mod Executed
+pub mod Computed
