@@ -2,40 +2,28 @@ use borrow.Author.Needs.{needs}
 use Rattle.memory.specs.Memory.{wordAt}
 use Rattle.memory.proofs.word_at.Statement.{statement}
 use Rattle.memory.proofs.word_at.Tie as tie
-use Rattle.memory.proofs.word_at.Reads as reads
-use Rattle.memory.proofs.word_at.Lts as lts
-use Rattle.memory.proofs.byte_at.Reads as byte-at-reads
-use Rattle.registers.proofs.word.up.Reads as up-reads
 
--- src/lib.rt:21:13
 byte-at-requires : tie.Need-byte-at-requires
 byte-at-requires c κs = search needs
 
--- src/lib.rt:21:13
 cast-h : tie.Need-cast-h
 cast-h c = search needs
 
--- src/lib.rt:22:26
 up-requires : tie.Need-up-requires
 up-requires c κs = search needs
 
--- src/lib.rt:22:13
 byte-at-requires-2 : tie.Need-byte-at-requires-2
 byte-at-requires-2 c κs = search needs
 
--- src/lib.rt:22:13
 cast-l : tie.Need-cast-l
 cast-l c = search needs
 
--- src/lib.rt:23:5
 mul-result : tie.Need-mul-result
 mul-result c = search needs
 
--- src/lib.rt:23:5
 add-result : tie.Need-add-result
 add-result c = search needs
 
--- src/lib.rt:17:1
 returns : tie.Need-returns
 unfolding wordAt
 returns c = cc

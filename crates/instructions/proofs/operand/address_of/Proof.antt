@@ -2,49 +2,36 @@ use borrow.Author.Needs.{needs}
 use Rattle.instructions.specs.Operand.{addressOf}
 use Rattle.instructions.proofs.operand.address_of.Statement.{statement}
 use Rattle.instructions.proofs.operand.address_of.Tie as tie
-use Rattle.instructions.proofs.operand.address_of.Reads as reads
-use Rattle.instructions.proofs.operand.address_of.Lts as lts
-use Rattle.registers.proofs.word.up.Reads as up-reads
 
--- src/operand.rt:39:24
 enum-known-a : tie.Need-enum-known-a
 enum-known-a c = search needs
 
--- src/operand.rt:40:27
 enum-known-a-2 : tie.Need-enum-known-a-2
 enum-known-a-2 c = search needs
 
--- src/operand.rt:40:41
 cast-up : tie.Need-cast-up
 cast-up c = search needs
 
--- src/operand.rt:40:33
 up-requires : tie.Need-up-requires
 up-requires c κs = search needs
 
--- src/operand.rt:41:27
 enum-known-a-3 : tie.Need-enum-known-a-3
 enum-known-a-3 c = search needs
 
--- src/operand.rt:41:41
 cast-up-2 : tie.Need-cast-up-2
 cast-up-2 c = search needs
 
--- src/operand.rt:41:33
 up-requires-2 : tie.Need-up-requires-2
 up-requires-2 c κs = search needs
 
--- src/operand.rt:35:1
 returns : tie.Need-returns
 unfolding addressOf
 returns c = simp (c .before .a .given .1)
 
--- src/operand.rt:35:1
 returns-2 : tie.Need-returns-2
 unfolding addressOf
 returns-2 c = simp (c .up .ensures, c .before .before .a2 .given .1)
 
--- src/operand.rt:35:1
 returns-3 : tie.Need-returns-3
 unfolding addressOf
 returns-3 c = simp (c .up2 .ensures, c .before .before .a3 .given .1)

@@ -3,37 +3,27 @@ use Rattle.instructions.proofs.Rest.{no-offset}
 use Rattle.opcodes.specs.Form.{targetIn}
 use Rattle.instructions.proofs.operand.branch_target.Statement.{statement}
 use Rattle.instructions.proofs.operand.branch_target.Tie as tie
-use Rattle.instructions.proofs.operand.branch_target.Reads as reads
-use Rattle.instructions.proofs.operand.branch_target.Lts as lts
-use Rattle.instructions.proofs.operand.target.Reads as target-reads
 
--- src/operand.rt:29:27
 enum-known-o : tie.Need-enum-known-o
 enum-known-o c = search needs
 
--- src/operand.rt:29:33
 target-requires : tie.Need-target-requires
 target-requires c κs = search needs
 
--- src/operand.rt:30:35
 enum-known-o-2 : tie.Need-enum-known-o-2
 enum-known-o-2 c = search needs
 
--- src/operand.rt:30:41
 target-requires-2 : tie.Need-target-requires-2
 target-requires-2 c κs = search needs
 
--- src/operand.rt:25:1
 returns : tie.Need-returns
 unfolding targetIn
 returns c = simp (c .target .ensures, c .before .before .o .given .1)
 
--- src/operand.rt:25:1
 returns-2 : tie.Need-returns-2
 unfolding targetIn
 returns-2 c = simp (c .target2 .ensures, c .before .before .o2 .given .1)
 
--- src/operand.rt:25:1
 returns-3 : tie.Need-returns-3
 unfolding targetIn
 returns-3 c = no-offset (c .before .args .o) (c .before .args .next) (c .match .keys3)

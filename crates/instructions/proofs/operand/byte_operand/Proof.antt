@@ -6,33 +6,23 @@ use Rattle.memory.specs.Memory.{byteAt}
 use Rattle.instructions.specs.Operand.{byteOperand}
 use Rattle.instructions.proofs.operand.byte_operand.Statement.{statement}
 use Rattle.instructions.proofs.operand.byte_operand.Tie as tie
-use Rattle.instructions.proofs.operand.byte_operand.Reads as reads
-use Rattle.instructions.proofs.operand.byte_operand.Lts as lts
-use Rattle.memory.proofs.byte_at.Reads as byte-at-reads
-use Rattle.instructions.proofs.operand.operand_address.Reads as operand-address-reads
 
--- src/operand.rt:66:28
 enum-known-o : tie.Need-enum-known-o
 enum-known-o c = search needs
 
--- src/operand.rt:66:34
 cast-result : tie.Need-cast-result
 cast-result c = search needs
 
--- src/operand.rt:67:27
 operand-address-requires : tie.Need-operand-address-requires
 operand-address-requires c κs = search needs
 
--- src/operand.rt:67:14
 byte-at-requires : tie.Need-byte-at-requires
 byte-at-requires c κs = search needs
 
--- src/operand.rt:61:1
 returns : tie.Need-returns
 unfolding byteOperand
 returns c = simp (c .before .o .given .1)
 
--- src/operand.rt:61:1
 returns-2 : tie.Need-returns-2
 unfolding byteOperand
 returns-2 c =

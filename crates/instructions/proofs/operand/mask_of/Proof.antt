@@ -3,28 +3,21 @@ use Rattle.instructions.proofs.Rest.{no-mask}
 use Rattle.instructions.specs.Operand.{maskOf}
 use Rattle.instructions.proofs.operand.mask_of.Statement.{statement}
 use Rattle.instructions.proofs.operand.mask_of.Tie as tie
-use Rattle.instructions.proofs.operand.mask_of.Reads as reads
-use Rattle.instructions.proofs.operand.mask_of.Lts as lts
 
--- src/operand.rt:86:26
 enum-known-o : tie.Need-enum-known-o
 enum-known-o c = search needs
 
--- src/operand.rt:87:32
 enum-known-o-2 : tie.Need-enum-known-o-2
 enum-known-o-2 c = search needs
 
--- src/operand.rt:82:1
 returns : tie.Need-returns
 unfolding maskOf
 returns c = simp (c .before .o .given .1)
 
--- src/operand.rt:82:1
 returns-2 : tie.Need-returns-2
 unfolding maskOf
 returns-2 c = simp (c .before .o2 .given .1)
 
--- src/operand.rt:82:1
 returns-3 : tie.Need-returns-3
 unfolding maskOf
 returns-3 c = no-mask (c .before .args .o) (c .match .keys3)

@@ -3,121 +3,90 @@ use Rattle.instructions.specs.Operand.{addressOf, operandAddress}
 use Rattle.opcodes.specs.Form.{addressIn}
 use Rattle.instructions.proofs.operand.operand_address.Statement.{statement}
 use Rattle.instructions.proofs.operand.operand_address.Tie as tie
-use Rattle.instructions.proofs.operand.operand_address.Reads as reads
-use Rattle.instructions.proofs.operand.operand_address.Lts as lts
-use Rattle.registers.proofs.word.up.Reads as up-reads
-use Rattle.instructions.proofs.operand.address_of.Reads as address-of-reads
-use Rattle.instructions.proofs.operand.target.Reads as target-reads
 
--- src/operand.rt:49:30
 enum-told : tie.Need-enum-told
 enum-told c = search needs
 
--- src/operand.rt:50:34
 enum-told-2 : tie.Need-enum-told-2
 enum-told-2 c = search needs
 
--- src/operand.rt:51:25
 enum-known-o : tie.Need-enum-known-o
 enum-known-o c = search needs
 
--- src/operand.rt:51:31
 cast-result : tie.Need-cast-result
 cast-result c = search needs
 
--- src/operand.rt:52:27
 enum-known-o-2 : tie.Need-enum-known-o-2
 enum-known-o-2 c = search needs
 
--- src/operand.rt:53:27
 enum-known-o-3 : tie.Need-enum-known-o-3
 enum-known-o-3 c = search needs
 
--- src/operand.rt:53:41
 cast-up : tie.Need-cast-up
 cast-up c = search needs
 
--- src/operand.rt:53:33
 up-requires : tie.Need-up-requires
 up-requires c κs = search needs
 
--- src/operand.rt:54:27
 enum-known-o-4 : tie.Need-enum-known-o-4
 enum-known-o-4 c = search needs
 
--- src/operand.rt:54:41
 cast-up-2 : tie.Need-cast-up-2
 cast-up-2 c = search needs
 
--- src/operand.rt:54:33
 up-requires-2 : tie.Need-up-requires-2
 up-requires-2 c κs = search needs
 
--- src/operand.rt:55:27
 enum-known-o-5 : tie.Need-enum-known-o-5
 enum-known-o-5 c = search needs
 
--- src/operand.rt:55:33
 target-requires : tie.Need-target-requires
 target-requires c κs = search needs
 
--- src/operand.rt:56:23
 enum-known-o-6 : tie.Need-enum-known-o-6
 enum-known-o-6 c = search needs
 
--- src/operand.rt:56:32
 address-of-requires : tie.Need-address-of-requires
 address-of-requires c κs = search needs
 
--- src/operand.rt:57:29
 enum-known-o-7 : tie.Need-enum-known-o-7
 enum-known-o-7 c = search needs
 
--- src/operand.rt:57:41
 address-of-requires-2 : tie.Need-address-of-requires-2
 address-of-requires-2 c κs = search needs
 
--- src/operand.rt:45:1
 returns : tie.Need-returns
 unfolding addressOf operandAddress addressIn
 returns c = simp (c .enum-told .given .1)
 
--- src/operand.rt:45:1
 returns-2 : tie.Need-returns-2
 unfolding addressOf operandAddress addressIn
 returns-2 c = simp (c .enum-told2 .given .1)
 
--- src/operand.rt:45:1
 returns-3 : tie.Need-returns-3
 unfolding addressOf operandAddress addressIn
 returns-3 c = simp (c .before .o .given .1)
 
--- src/operand.rt:45:1
 returns-4 : tie.Need-returns-4
 unfolding addressOf operandAddress addressIn
 returns-4 c = simp (c .before .o2 .given .1)
 
--- src/operand.rt:45:1
 returns-5 : tie.Need-returns-5
 unfolding addressOf operandAddress addressIn
 returns-5 c = simp (c .up .ensures, c .before .before .o3 .given .1)
 
--- src/operand.rt:45:1
 returns-6 : tie.Need-returns-6
 unfolding addressOf operandAddress addressIn
 returns-6 c = simp (c .up2 .ensures, c .before .before .o4 .given .1)
 
--- src/operand.rt:45:1
 returns-7 : tie.Need-returns-7
 unfolding addressOf operandAddress addressIn
 returns-7 c = simp (c .target .ensures, c .before .before .o5 .given .1)
 
--- src/operand.rt:45:1
 returns-8 : tie.Need-returns-8
 unfolding addressOf operandAddress addressIn
 returns-8 c = simp (c .address-of .ensures, c .before .before .o6 .given .1)
 
--- src/operand.rt:45:1
 returns-9 : tie.Need-returns-9
 unfolding addressOf operandAddress addressIn
 returns-9 c = simp (c .address-of2 .ensures, c .before .before .o7 .given .1)

@@ -6,29 +6,20 @@ use Rattle.memory.specs.Memory.{wordAt}
 use Rattle.instructions.specs.Operand.{wordOperand}
 use Rattle.instructions.proofs.operand.word_operand.Statement.{statement}
 use Rattle.instructions.proofs.operand.word_operand.Tie as tie
-use Rattle.instructions.proofs.operand.word_operand.Reads as reads
-use Rattle.instructions.proofs.operand.word_operand.Lts as lts
-use Rattle.memory.proofs.word_at.Reads as word-at-reads
-use Rattle.instructions.proofs.operand.operand_address.Reads as operand-address-reads
 
--- src/operand.rt:76:28
 enum-known-o : tie.Need-enum-known-o
 enum-known-o c = search needs
 
--- src/operand.rt:77:27
 operand-address-requires : tie.Need-operand-address-requires
 operand-address-requires c κs = search needs
 
--- src/operand.rt:77:14
 word-at-requires : tie.Need-word-at-requires
 word-at-requires c κs = search needs
 
--- src/operand.rt:71:1
 returns : tie.Need-returns
 unfolding wordOperand
 returns c = simp (c .before .o .given .1)
 
--- src/operand.rt:71:1
 returns-2 : tie.Need-returns-2
 unfolding wordOperand
 returns-2 c =
