@@ -3,27 +3,6 @@ use Rattle.instructions.specs.Operand.{addressOf}
 use Rattle.instructions.proofs.operand.address_of.Statement.{statement}
 use Rattle.instructions.proofs.operand.address_of.Tie as tie
 
-enum-known-a : tie.Need-enum-known-a
-enum-known-a c = search needs
-
-enum-known-a-2 : tie.Need-enum-known-a-2
-enum-known-a-2 c = search needs
-
-cast-up : tie.Need-cast-up
-cast-up c = search needs
-
-up-requires : tie.Need-up-requires
-up-requires c κs = search needs
-
-enum-known-a-3 : tie.Need-enum-known-a-3
-enum-known-a-3 c = search needs
-
-cast-up-2 : tie.Need-cast-up-2
-cast-up-2 c = search needs
-
-up-requires-2 : tie.Need-up-requires-2
-up-requires-2 c κs = search needs
-
 returns : tie.Need-returns
 unfolding addressOf
 returns c = simp (c .before .a .given .1)
@@ -40,13 +19,13 @@ pub address-of-spec : {M : Type 1} → statement M
 address-of-spec =
     tie.close
     (tie.spec
-    enum-known-a
-    enum-known-a-2
-    cast-up
-    up-requires
-    enum-known-a-3
-    cast-up-2
-    up-requires-2
+    (search needs)
+    (search needs)
+    (search needs)
+    (search needs)
+    (search needs)
+    (search needs)
+    (search needs)
     returns
     returns-2
     returns-3)

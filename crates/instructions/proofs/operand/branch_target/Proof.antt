@@ -4,18 +4,6 @@ use Rattle.opcodes.specs.Form.{targetIn}
 use Rattle.instructions.proofs.operand.branch_target.Statement.{statement}
 use Rattle.instructions.proofs.operand.branch_target.Tie as tie
 
-enum-known-o : tie.Need-enum-known-o
-enum-known-o c = search needs
-
-target-requires : tie.Need-target-requires
-target-requires c κs = search needs
-
-enum-known-o-2 : tie.Need-enum-known-o-2
-enum-known-o-2 c = search needs
-
-target-requires-2 : tie.Need-target-requires-2
-target-requires-2 c κs = search needs
-
 returns : tie.Need-returns
 unfolding targetIn
 returns c = simp (c .target .ensures, c .before .before .o .given .1)
@@ -32,10 +20,10 @@ pub branch-target-spec : {M : Type 1} → statement M
 branch-target-spec =
     tie.close
     (tie.spec
-    enum-known-o
-    target-requires
-    enum-known-o-2
-    target-requires-2
+    (search needs)
+    (search needs)
+    (search needs)
+    (search needs)
     returns
     returns-2
     returns-3)

@@ -7,18 +7,6 @@ use Rattle.instructions.specs.Operand.{byteOperand}
 use Rattle.instructions.proofs.operand.byte_operand.Statement.{statement}
 use Rattle.instructions.proofs.operand.byte_operand.Tie as tie
 
-enum-known-o : tie.Need-enum-known-o
-enum-known-o c = search needs
-
-cast-result : tie.Need-cast-result
-cast-result c = search needs
-
-operand-address-requires : tie.Need-operand-address-requires
-operand-address-requires c κs = search needs
-
-byte-at-requires : tie.Need-byte-at-requires
-byte-at-requires c κs = search needs
-
 returns : tie.Need-returns
 unfolding byteOperand
 returns c = simp (c .before .o .given .1)
@@ -32,4 +20,4 @@ returns-2 c =
 pub byte-operand-spec : {M : Type 1} → statement M
 byte-operand-spec =
     tie.close
-    (tie.spec enum-known-o cast-result operand-address-requires byte-at-requires returns returns-2)
+    (tie.spec (search needs) (search needs) (search needs) (search needs) returns returns-2)

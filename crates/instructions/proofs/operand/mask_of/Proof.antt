@@ -4,12 +4,6 @@ use Rattle.instructions.specs.Operand.{maskOf}
 use Rattle.instructions.proofs.operand.mask_of.Statement.{statement}
 use Rattle.instructions.proofs.operand.mask_of.Tie as tie
 
-enum-known-o : tie.Need-enum-known-o
-enum-known-o c = search needs
-
-enum-known-o-2 : tie.Need-enum-known-o-2
-enum-known-o-2 c = search needs
-
 returns : tie.Need-returns
 unfolding maskOf
 returns c = simp (c .before .o .given .1)
@@ -23,4 +17,4 @@ unfolding maskOf
 returns-3 c = no-mask (c .before .args .o) (c .match .keys3)
 
 pub mask-of-spec : {M : Type 1} → statement M
-mask-of-spec = tie.close (tie.spec enum-known-o enum-known-o-2 returns returns-2 returns-3)
+mask-of-spec = tie.close (tie.spec (search needs) (search needs) returns returns-2 returns-3)

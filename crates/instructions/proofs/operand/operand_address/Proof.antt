@@ -4,57 +4,6 @@ use Rattle.opcodes.specs.Form.{addressIn}
 use Rattle.instructions.proofs.operand.operand_address.Statement.{statement}
 use Rattle.instructions.proofs.operand.operand_address.Tie as tie
 
-enum-told : tie.Need-enum-told
-enum-told c = search needs
-
-enum-told-2 : tie.Need-enum-told-2
-enum-told-2 c = search needs
-
-enum-known-o : tie.Need-enum-known-o
-enum-known-o c = search needs
-
-cast-result : tie.Need-cast-result
-cast-result c = search needs
-
-enum-known-o-2 : tie.Need-enum-known-o-2
-enum-known-o-2 c = search needs
-
-enum-known-o-3 : tie.Need-enum-known-o-3
-enum-known-o-3 c = search needs
-
-cast-up : tie.Need-cast-up
-cast-up c = search needs
-
-up-requires : tie.Need-up-requires
-up-requires c κs = search needs
-
-enum-known-o-4 : tie.Need-enum-known-o-4
-enum-known-o-4 c = search needs
-
-cast-up-2 : tie.Need-cast-up-2
-cast-up-2 c = search needs
-
-up-requires-2 : tie.Need-up-requires-2
-up-requires-2 c κs = search needs
-
-enum-known-o-5 : tie.Need-enum-known-o-5
-enum-known-o-5 c = search needs
-
-target-requires : tie.Need-target-requires
-target-requires c κs = search needs
-
-enum-known-o-6 : tie.Need-enum-known-o-6
-enum-known-o-6 c = search needs
-
-address-of-requires : tie.Need-address-of-requires
-address-of-requires c κs = search needs
-
-enum-known-o-7 : tie.Need-enum-known-o-7
-enum-known-o-7 c = search needs
-
-address-of-requires-2 : tie.Need-address-of-requires-2
-address-of-requires-2 c κs = search needs
-
 returns : tie.Need-returns
 unfolding addressOf operandAddress addressIn
 returns c = simp (c .enum-told .given .1)
@@ -95,23 +44,23 @@ pub operand-address-spec : {M : Type 1} → statement M
 operand-address-spec =
     tie.close
     (tie.spec
-    enum-told
-    enum-told-2
-    enum-known-o
-    cast-result
-    enum-known-o-2
-    enum-known-o-3
-    cast-up
-    up-requires
-    enum-known-o-4
-    cast-up-2
-    up-requires-2
-    enum-known-o-5
-    target-requires
-    enum-known-o-6
-    address-of-requires
-    enum-known-o-7
-    address-of-requires-2
+    (search needs)
+    (search needs)
+    (search needs)
+    (search needs)
+    (search needs)
+    (search needs)
+    (search needs)
+    (search needs)
+    (search needs)
+    (search needs)
+    (search needs)
+    (search needs)
+    (search needs)
+    (search needs)
+    (search needs)
+    (search needs)
+    (search needs)
     returns
     returns-2
     returns-3

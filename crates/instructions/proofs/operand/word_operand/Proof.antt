@@ -7,15 +7,6 @@ use Rattle.instructions.specs.Operand.{wordOperand}
 use Rattle.instructions.proofs.operand.word_operand.Statement.{statement}
 use Rattle.instructions.proofs.operand.word_operand.Tie as tie
 
-enum-known-o : tie.Need-enum-known-o
-enum-known-o c = search needs
-
-operand-address-requires : tie.Need-operand-address-requires
-operand-address-requires c κs = search needs
-
-word-at-requires : tie.Need-word-at-requires
-word-at-requires c κs = search needs
-
 returns : tie.Need-returns
 unfolding wordOperand
 returns c = simp (c .before .o .given .1)
@@ -28,4 +19,4 @@ returns-2 c =
 
 pub word-operand-spec : {M : Type 1} → statement M
 word-operand-spec =
-    tie.close (tie.spec enum-known-o operand-address-requires word-at-requires returns returns-2)
+    tie.close (tie.spec (search needs) (search needs) (search needs) returns returns-2)

@@ -10,25 +10,10 @@ use Rattle.opcodes.proofs.Index.{low-half}
 use Rattle.opcodes.proofs.condition.holds.Statement.{statement}
 use Rattle.opcodes.proofs.condition.holds.Tie as tie
 
-cast-i : tie.Need-cast-i
-cast-i c = search needs
-
-mul-word : tie.Need-mul-word
-mul-word c = search needs
-
-array-read-word : tie.Need-array-read-word
-array-read-word c = search needs
-
-cast-result : tie.Need-cast-result
-cast-result c = search needs
-
-shr-result : tie.Need-shr-result
-shr-result c = search needs
-
 returns : tie.Need-returns
 unfolding truthWords holdsOf
 returns c =
     ap (λ (i : ℕ). bit i (getD truthWords (c .args .k % 16) 0)) (sym (low-half (c .args .flags) (search needs)))
 
 pub holds-spec : {M : Type 1} → statement M
-holds-spec = tie.close (tie.spec cast-i mul-word array-read-word cast-result shr-result returns)
+holds-spec = tie.close (tie.spec (search needs) (search needs) (search needs) (search needs) (search needs) returns)

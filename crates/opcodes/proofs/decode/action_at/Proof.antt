@@ -8,12 +8,6 @@ use Rattle.opcodes.proofs.Lent.{lent}
 use Rattle.opcodes.proofs.decode.action_at.Statement.{statement}
 use Rattle.opcodes.proofs.decode.action_at.Tie as tie
 
-element-copy-out-action-of : tie.Need-element-copy-out-action-of
-element-copy-out-action-of c = search needs
-
-action-of-requires : tie.Need-action-of-requires
-action-of-requires c κs = search needs
-
 returns : tie.Need-returns
 unfolding actionAt
 returns c =
@@ -21,4 +15,4 @@ returns c =
     c .action-of .ensures ∙ lent actionOf (a .args .ta .now) actions (a .pre .1) (a .args .place)
 
 pub action-at-spec : {M : Type 1} → statement M
-action-at-spec = tie.close (tie.spec element-copy-out-action-of action-of-requires returns)
+action-at-spec = tie.close (tie.spec (search needs) (search needs) returns)

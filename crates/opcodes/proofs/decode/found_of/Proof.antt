@@ -7,12 +7,6 @@ use Rattle.opcodes.proofs.Prefix.{plain, size-1, in-first, paged, entry
 use Rattle.opcodes.proofs.decode.found_of.Statement.{statement}
 use Rattle.opcodes.proofs.decode.found_of.Tie as tie
 
-mul-e : tie.Need-mul-e
-mul-e c = search needs
-
-element-copy-out-e : tie.Need-element-copy-out-e
-element-copy-out-e c = search needs
-
 returns : tie.Need-returns
 returns c =
     let a = c .before .before .args in
@@ -21,26 +15,11 @@ returns c =
     let z = plain (a .first) (λ q. n (entry (a .tc .now) e (a .first) ∙ q)) in
     there (a .first) (a .second) (a .tc .now) e (a .first) (in-first (a .first) (a .second) z) 1 (size-1 (a .first) (search needs)) n
 
-page-of-requires : tie.Need-page-of-requires
-page-of-requires c κs = search needs
-
 returns-2 : tie.Need-returns-2
 returns-2 c =
     let a = c .before .before .before .before .args in
     let z = sym (c .before .page-of .ensures .0) ∙ c .if2 .taken in
     nowhere (a .first) (a .second) (a .tc .now) (c .before .before .before .before .pre) (a .first) (in-first (a .first) (a .second) z) (c .before .before .if1 .left)
-
-add-place : tie.Need-add-place
-add-place c = search needs
-
-cast-j : tie.Need-cast-j
-cast-j c = search needs
-
-mul-k : tie.Need-mul-k
-mul-k c = search needs
-
-element-copy-out-k : tie.Need-element-copy-out-k
-element-copy-out-k c = search needs
 
 returns-3 : tie.Need-returns-3
 returns-3 c =
@@ -60,14 +39,14 @@ pub found-of-spec : {M : Type 1} → statement M
 found-of-spec =
     tie.close
     (tie.spec
-    mul-e
-    element-copy-out-e
+    (search needs)
+    (search needs)
     returns
-    page-of-requires
+    (search needs)
     returns-2
-    add-place
-    cast-j
-    mul-k
-    element-copy-out-k
+    (search needs)
+    (search needs)
+    (search needs)
+    (search needs)
     returns-3
     returns-4)

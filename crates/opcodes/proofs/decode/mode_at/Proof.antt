@@ -8,12 +8,6 @@ use Rattle.opcodes.proofs.Lent.{lent}
 use Rattle.opcodes.proofs.decode.mode_at.Statement.{statement}
 use Rattle.opcodes.proofs.decode.mode_at.Tie as tie
 
-element-copy-out-mode-of : tie.Need-element-copy-out-mode-of
-element-copy-out-mode-of c = search needs
-
-mode-of-requires : tie.Need-mode-of-requires
-mode-of-requires c κs = search needs
-
 returns : tie.Need-returns
 unfolding modeAt
 returns c =
@@ -21,4 +15,4 @@ returns c =
     c .mode-of .ensures ∙ lent modeOf (a .args .tm .now) modes (a .pre .1) (a .args .place)
 
 pub mode-at-spec : {M : Type 1} → statement M
-mode-at-spec = tie.close (tie.spec element-copy-out-mode-of mode-of-requires returns)
+mode-at-spec = tie.close (tie.spec (search needs) (search needs) returns)

@@ -2,11 +2,8 @@ use borrow.Author.Needs.{needs}
 use Rattle.registers.proofs.Registers.start.Statement.{statement}
 use Rattle.registers.proofs.Registers.start.Tie as tie
 
-down-requires : tie.Need-down-requires
-down-requires c κs = search needs
-
 returns : tie.Need-returns
 returns c = simp (c .down .ensures)
 
 pub start-spec : {M : Type 1} → statement M
-start-spec = tie.close (tie.spec down-requires returns)
+start-spec = tie.close (tie.spec (search needs) returns)
