@@ -4,7 +4,7 @@
 use mathlib.Core.Path.{_≡_, refl, _∙_, ap}
 use mathlib.Core.Bool.{Bool, true, false}
 use mathlib.Core.List.{List, []}
-use Prim.Native.Nat.{ℕ, zero, suc, _%_, _<_}
+use Prim.Native.Nat.{ℕ, zero, suc, _%_}
 use native.Mathlib.Omega.{arith}
 use lib.Dec.{eqb·suc-zero, eqb·suc-suc}
 use lib.ListN.{getD}
@@ -19,7 +19,7 @@ use Rattle.opcodes.specs.declared.instruction.Action.the-variants.{Branch}
 use Rattle.opcodes.specs.declared.instruction.Operand.{Operand}
 use Rattle.instructions.specs.Operand.{addressOf}
 use Rattle.instructions.specs.Outcome.{branches, outcomeOf}
-use Rattle.instructions.specs.Effect.{Effect, effect, effectBy, effectOf}
+use Rattle.instructions.specs.Effect.{effect, effectBy, effectOf}
 
 by-form : (j t : ℕ) (taken : Bool) (r : Registers) (m : List ℕ) → (j ≡ 0 → taken ≡ true) → (j ≡ 1 → taken ≡ false)
     → effectBy (branchForm j t) r r (branches taken (dataOf r)) m ≡ effect (withPc r (pick taken t (r .pc))) []

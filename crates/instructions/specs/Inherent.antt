@@ -22,7 +22,7 @@ use Rattle.arithmetic.specs.declared.divide.Divided.{Divided}
 abbrev pub codes : Data → Flags
 codes d = flagsOf (d .flags)
 
--- a result goes to A, to D, or to X and D, with its condition codes
+-- a result goes to A, to B, to D, or to X and D, with its condition codes
 abbrev pub toA : Data → ByteResult → Data
 toA d w = withA d (w .value) (byteOf (w .flags))
 

@@ -1,8 +1,7 @@
 // What the instructions make of values: an accumulator, a word or an operand, and the flags.
 ghost use mathlib.Core.Path.{_≡_};
-ghost use Prim.Native.Nat.{ℕ};
 ghost use Rattle.registers.specs.Flags.{flagsOf, byteOf};
-ghost use Rattle.registers.specs.Registers.{dataOf, accumulatorD, withData, withFlags};
+ghost use Rattle.registers.specs.Registers.{accumulatorD, withFlags};
 ghost use Rattle.arithmetic.specs.Byte.{unaryOf, binaryOf, tstOf};
 ghost use Rattle.arithmetic.specs.Word.{add16Of, sub16Of, logic16Of};
 ghost use Rattle.instructions.specs.Inherent.{codes, toD};

@@ -1,10 +1,7 @@
 -- `execute` meets its contract: in each arm what was called ensures the effect at that case.
 -- Assumes nothing.
 use borrow.Author.Needs.{needs}
-use mathlib.Core.Path.{refl, sym, _∙_, ap}
-use Rattle.registers.specs.Registers.{withPc}
-use Rattle.opcodes.specs.Decode.{pick}
-use Rattle.opcodes.specs.Form.{targetIn}
+use mathlib.Core.Path.{refl, sym}
 use Rattle.instructions.specs.Effect.{effectOf}
 use Rattle.instructions.proofs.Effects.{opened, executed-as}
 use Rattle.instructions.proofs.Branch.{branched}
@@ -112,38 +109,38 @@ execute-spec =
     tie.close
     (tie.spec
     (search needs)
+    (search needs) (search needs) (search needs)
     (search needs) (search needs) (search needs)  -- Inherent
-    (search needs) (search needs) (search needs)  -- Unary
+    (search needs) (search needs) (search needs) (search needs)  -- Unary
     (search needs) (search needs) (search needs) (search needs)  -- TstAccumulator
     (search needs) (search needs) (search needs) (search needs)  -- Binary
-    (search needs) (search needs) (search needs) (search needs)  -- TstMemory
-    (search needs) (search needs)  -- LoadWord
+    (search needs) (search needs)  -- TstMemory
+    (search needs) (search needs) (search needs) (search needs)  -- LoadWord
     (search needs) (search needs) (search needs) (search needs)  -- Addd
-    (search needs) (search needs) (search needs) (search needs)  -- Subd
-    (search needs) (search needs) (search needs) (search needs) (search needs)  -- CompareWord
-    (search needs) (search needs)  -- StoreByte
-    (search needs) (search needs)  -- StoreWord
-    (search needs) (search needs)  -- Modify
-    (search needs) (search needs)  -- Bset
+    (search needs) (search needs) (search needs) (search needs) (search needs)  -- Subd
+    (search needs) (search needs)  -- CompareWord
+    (search needs) (search needs)
+    (search needs) (search needs)
+    (search needs) (search needs)
+    (search needs) (search needs)
+    (search needs) (search needs) (search needs) (search needs) (search needs)  -- StoreByte
+    (search needs) (search needs) (search needs) (search needs) (search needs)  -- StoreWord
+    (search needs) (search needs) (search needs)  -- Modify
+    (search needs) (search needs) (search needs)  -- Bset
     (search needs) (search needs)  -- Bclr
-    (search needs) (search needs) (search needs) (search needs) (search needs)  -- Brset
-    (search needs) (search needs) (search needs) (search needs) (search needs)  -- Brclr
-    (search needs) (search needs) (search needs)  -- Branch
-    (search needs) (search needs) (search needs)  -- Jmp
+    (search needs) (search needs)  -- Brset
+    (search needs) (search needs)  -- Brclr
+    (search needs) (search needs)  -- Branch
+    (search needs) (search needs)  -- Jmp
     (search needs) (search needs)  -- Call
-    (search needs) (search needs)  -- Rts
-    (search needs) (search needs)  -- PushByte
-    (search needs) (search needs)  -- PushWord
+    (search needs) (search needs) (search needs)  -- Rts
+    (search needs) (search needs) (search needs)  -- PushByte
+    (search needs) (search needs) (search needs) (search needs)  -- PushWord
     (search needs) (search needs)  -- PullByte
     (search needs) (search needs)  -- PullWord
-    (search needs) (search needs) (search needs)  -- Des
-    (search needs) (search needs) (search needs)  -- Ins
-    (search needs) (search needs) (search needs) (search needs)  -- SetStack
-    (search needs) (search needs)  -- Swi
-    (search needs) (search needs)  -- Rti
-    (search needs)  -- Wai
-    (search needs)  -- Stop
-    (search needs)  -- Test
+    (search needs)  -- Des
+    (search needs)  -- Ins
+    (search needs)  -- SetStack
     at-inherent
     at-unary
     at-tst-accumulator
@@ -164,7 +161,7 @@ execute-spec =
     let a = c .before .before .before .before .before .before .before .args in
     executed-as (λ x. effectOf x (a .o) (a .r) (a .mem .now)) (a .mem .now) (sym (c .before .before .before .a10 .given .1))
     (executed-as (λ e. e) (a .mem .now) (sym (branched _ (a .o) (a .r) (a .mem .now)))
-    (c .branch3 .ensures ∙ ap (λ taken. withPc (a .r) (pick taken (targetIn (a .o) (a .r .pc)) (a .r .pc))) (c .before .holds .ensures), refl)))  -- Branch
+    (simp (c .branch3 .ensures, c .before .holds .ensures), refl)))  -- Branch
     at-jmp
     (search needs) (λ c. (simp (c .before .before .call .ensures .0, c .before .before .before .before .enum-told9 .given .1), simp (c .before .before .call .ensures .1, c .before .before .before .before .enum-told9 .given .1)))  -- Call
     (search needs) at-rts

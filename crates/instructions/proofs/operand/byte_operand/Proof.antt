@@ -1,6 +1,6 @@
 use borrow.Author.Needs.{needs}
 use mathlib.Core.Path.{_∙_, ap}
-use Prim.Native.Nat.{ℕ, _%_}
+use Prim.Native.Nat.{_%_}
 use Rattle.instructions.proofs.Rest.{in-memory}
 use Rattle.memory.specs.Memory.{byteAt}
 use Rattle.instructions.specs.Operand.{byteOperand}

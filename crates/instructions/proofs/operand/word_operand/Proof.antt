@@ -1,6 +1,5 @@
 use borrow.Author.Needs.{needs}
 use mathlib.Core.Path.{_∙_, ap}
-use Prim.Native.Nat.{ℕ}
 use Rattle.instructions.proofs.Rest.{in-memory}
 use Rattle.memory.specs.Memory.{wordAt}
 use Rattle.instructions.specs.Operand.{wordOperand}

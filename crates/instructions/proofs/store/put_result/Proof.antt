@@ -13,4 +13,4 @@ put-result-spec =
     (search needs)
     (search needs) (search needs)
     (search needs) (search needs) (search needs) (search needs)
-    (λ c. (simp (c .with-data .ensures, c .before .with-flags .ensures, c .before .before .to-byte .ensures, c .before .before .before .«data» .ensures, c .before .before .before .before .before .before .before .put-byte .ensures .0, c .before .before .before .before .before .before .before .before .operand-address .ensures), cc)))
+    (λ c. (simp (c .with-data .ensures, c .before .with-flags .ensures, c .before .before .to-byte .ensures, c .before .before .before .«data» .ensures), cc)))

@@ -2,13 +2,8 @@
 -- Assumes nothing.
 use borrow.Author.Needs.{needs}
 use mathlib.Core.Path.{_∙_}
-use Rattle.registers.specs.Registers.{dataOf}
-use Rattle.opcodes.specs.Form.{addressIn}
-use Rattle.opcodes.specs.declared.form.Form.the-variants.{StoresByte}
 use Rattle.arithmetic.specs.Byte.{bsetOf}
-use Rattle.instructions.specs.Outcome.{modifies}
-use Rattle.instructions.specs.Effect.{effectWith}
-use Rattle.instructions.proofs.Effects.{opened, executed-as}
+use Rattle.instructions.proofs.Effects.{opened, puts, executed-as}
 use Rattle.instructions.proofs.store.set_bits.Statement.{statement}
 use Rattle.instructions.proofs.store.set_bits.Tie as tie
 
@@ -18,6 +13,6 @@ set-bits-spec =
     tie.close (tie.spec (search needs) (search needs) (search needs) (search needs) (search needs) (search needs) (λ c.
     let b = c .before .before .before .before in
     let a = b .before .before .before .before .before .before .args in
-    executed-as (λ w. effectWith (StoresByte (addressIn (a .o) (a .r .pc))) (a .r) (modifies (dataOf (a .r)) w) (a .mem .now)) (a .mem .now)
+    executed-as (puts (a .o) (a .r) (a .mem .now)) (a .mem .now)
     (b .bset .ensures ∙ (λ i. bsetOf (b .before .before .before .byte-operand .ensures i) (b .before .before .mask-of .ensures i) (b .before .from-byte .ensures i)))
     (c .before .before .put-result .ensures)))

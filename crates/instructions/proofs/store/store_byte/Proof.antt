@@ -15,4 +15,4 @@ store-byte-spec =
     (search needs)
     (search needs) (search needs)
     (search needs) (search needs)
-    (λ c. (simp (c .with-data .ensures, c .before .tested-byte .ensures, c .before .before .before .before .put-byte .ensures .0, c .before .before .before .before .before .operand-address .ensures, c .before .before .before .before .before .before .before .accumulator .ensures, c .before .before .before .before .before .before .before .before .«data» .ensures), cc)))
+    (λ c. (simp (c .with-data .ensures, c .before .tested-byte .ensures, c .before .before .before .before .before .before .before .accumulator .ensures, c .before .before .before .before .before .before .before .before .«data» .ensures), cc)))

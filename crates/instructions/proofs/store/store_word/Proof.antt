@@ -15,4 +15,4 @@ store-word-spec =
     (search needs)
     (search needs) (search needs)
     (search needs) (search needs)
-    (λ c. (simp (c .with-data .ensures, c .before .tested-word .ensures, c .before .before .before .before .put-word .ensures .0, c .before .before .before .before .before .operand-address .ensures, c .before .before .before .before .before .before .before .word .ensures, c .before .before .before .before .before .before .before .before .«data» .ensures), cc)))
+    (λ c. (simp (c .with-data .ensures, c .before .tested-word .ensures, c .before .before .before .before .before .before .before .word .ensures, c .before .before .before .before .before .before .before .before .«data» .ensures), cc)))
