@@ -6,3 +6,4 @@ pub mod Turn
 pub mod Loop
 pub mod Once
 pub mod Sum
+pub mod Enough
