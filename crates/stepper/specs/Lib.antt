@@ -2,5 +2,5 @@ pub mod Answer
 pub mod Step
 pub mod Run
 pub mod Advance
-pub mod Executed
+pub mod Steps
 pub mod Computed
