@@ -2,8 +2,7 @@
 -- Bit 7 is a byte's sign and bit 15 a word's; H takes the carry out of bit 3.
 -- Assumes nothing.
 use Prim.Native.Nat.{ℕ, _/_, _%_, _^_}
-use mathlib.Core.Bool.{Bool, true, false, not, _&&_, _||_}
-use lib.Dec.{eqb}
+use mathlib.Core.Bool.{Bool, not, _&&_, _||_}
 use Rattle.registers.specs.Flags.{bit}
 use Rattle.registers.specs.declared.flags.Flags.{Flags}
 

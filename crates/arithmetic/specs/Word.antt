@@ -1,7 +1,7 @@
 -- The operations on words, with their condition codes, as the manual's entries have them.
 -- Assumes nothing.
 use Prim.Native.Nat.{ℕ, _+_, _-_, _*_, _/_, _%_}
-use mathlib.Core.Bool.{Bool, true, false}
+use mathlib.Core.Bool.{Bool, false}
 use lib.Dec.{eqb}
 use Rattle.registers.specs.Flags.{bit, low, xor}
 use Rattle.registers.specs.declared.flags.Flags.{Flags}

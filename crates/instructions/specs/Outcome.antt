@@ -2,15 +2,14 @@
 -- and whether it branches. A line for each of the manual's entries, or for a group of them.
 -- Assumes nothing.
 use Prim.Native.Nat.{ℕ, _+_, _*_, _/_, _%_}
-use mathlib.Core.Bool.{Bool, true, false}
+use mathlib.Core.Bool.{Bool, false}
 use lib.Dec.{eqb}
 use lib.Bits.{bitAnd}
-use Rattle.registers.specs.Flags.{flagsOf, byteOf}
-use Rattle.registers.specs.Word.{plus, less}
+use Rattle.registers.specs.Flags.{byteOf}
+use Rattle.registers.specs.Word.{less}
 use Rattle.registers.specs.Registers.{dataOf, accumulatorD, withA, withB, withD, withX, withY, withFlags}
 use Rattle.registers.specs.declared.Data.{Data}
 use Rattle.registers.specs.declared.Registers.{Registers}
-use Rattle.registers.specs.declared.flags.Flags.{Flags}
 use Rattle.opcodes.specs.Conditions.{holdsOf}
 use Rattle.opcodes.specs.declared.instruction.Accumulator.{Accumulator}
 use Rattle.opcodes.specs.declared.instruction.Accumulator.the-variants as Acc

@@ -19,7 +19,7 @@ use Rattle.opcodes.specs.declared.instruction.Decoded.{Decoded}
 use Rattle.opcodes.specs.declared.instruction.Decoded.the-variants.{Instruction, Nothing}
 use Rattle.registers.specs.Word.{plus}
 use Rattle.registers.specs.Registers.{withPc}
-use Rattle.stepper.specs.Answer.{Answer, done}
+use Rattle.stepper.specs.Answer.{done}
 use Rattle.instructions.specs.Effect.{Effect, effectOf}
 use Rattle.stepper.specs.Step.{fetched, executed, carriedOut, didIf, didOf, after, stepOf}
 

@@ -1,17 +1,16 @@
 -- The loop that a step and a run share: what is reached after some turns, and what a turn makes of it.
 -- Assumes nothing.
-use mathlib.Core.Path.{_≡_, refl, sym, ap, subst, _∙_}
+use mathlib.Core.Path.{_≡_, sym, ap, subst, _∙_}
 use mathlib.Core.List.{List}
 use Prim.Native.Nat.{ℕ, suc, pred, _+_, _-_, _≤_, _<_}
 use native.Mathlib.Omega.{arith}
-use Rattle.registers.specs.declared.Cycles.{Cycles}
 use Rattle.registers.specs.declared.Registers.{Registers}
 use Rattle.stepper.specs.declared.advance.Advanced.{Advanced}
 use Rattle.stepper.specs.declared.advance.Advanced.the-variants.{Done, Refused, Over}
 use Rattle.stepper.specs.declared.answer.Refusal.{Refusal}
-use Rattle.stepper.specs.Answer.{done, home, spent, refused as runRefused, numberOf, placeOf}
+use Rattle.stepper.specs.Answer.{home, spent, refused as runRefused, numberOf, placeOf}
 use Rattle.stepper.specs.Step.{After, stepOf}
-use Rattle.stepper.specs.Run.{AfterRun, runFrom}
+use Rattle.stepper.specs.Run.{runFrom}
 use Rattle.stepper.specs.Advance.{Advances, goFrom, goOf, stepped}
 use Rattle.stepper.proofs.Costs.{step-cost}
 use Rattle.stepper.proofs.Turn.{refuses, over, steps, at-home, away}

@@ -1,6 +1,6 @@
 -- The loop with an instruction's own cycles as its budget does that instruction and no second one.
 -- Assumes nothing.
-use mathlib.Core.Path.{_≡_, refl, sym, ap, subst, _∙_}
+use mathlib.Core.Path.{_≡_, refl, sym, ap, _∙_}
 use mathlib.Core.Bool.{Bool, true, false}
 use mathlib.Core.List.{List}
 use Prim.Native.Nat.{ℕ, zero, suc, _+_, _≤_, _<_}
@@ -9,7 +9,7 @@ use lib.Dec.{eqb}
 use borrow.Author.Tests.{ne-eqb, lt-leb}
 use Rattle.registers.specs.declared.Cycles.{Cycles}
 use Rattle.registers.specs.declared.Registers.{Registers}
-use Rattle.stepper.specs.Answer.{Answer, done, refused, RunAnswer}
+use Rattle.stepper.specs.Answer.{Answer, done, refused}
 use Rattle.stepper.specs.Step.{After, stepOf}
 use Rattle.stepper.specs.Run.{AfterRun, Rest, onward, turn, runFrom}
 use Rattle.stepper.specs.Advance.{goOf, firstOf, stepped}

@@ -9,10 +9,10 @@ use lib.Dec.{eqb, leb}
 use lib.ListN.{length}
 use Rattle.registers.specs.declared.Registers.{Registers}
 use Rattle.stepper.specs.Answer.{Answer, done, refused}
-use Rattle.stepper.specs.Step.{After, stepOf}
-use Rattle.stepper.specs.Run.{AfterRun, Rest, ifCovered, onward, turn, runFrom, runIf, runOf}
+use Rattle.stepper.specs.Step.{stepOf}
+use Rattle.stepper.specs.Run.{Rest, ifCovered, onward, turn, runFrom, runIf, runOf}
 use Rattle.stepper.specs.Advance.{stepped}
-use Rattle.stepper.specs.Steps.{Steps, none, first, total, Sums}
+use Rattle.stepper.specs.Steps.{Steps, none, first, Sums}
 use Rattle.stepper.proofs.Unchanged.{unchanged}
 
 module _ (b : ℕ) (f : Rest) (sums : (t : ℕ) (q : Registers) (n : List ℕ) → Sums q n t (f t q n)) (s : ℕ) (r : Registers) (m : List ℕ) where

@@ -8,8 +8,8 @@ use borrow.Author.Tests.{eq-eqb, ne-eqb, le-leb, lt-leb}
 use Rattle.registers.specs.declared.Cycles.{Cycles}
 use Rattle.registers.specs.declared.Registers.{Registers}
 use Rattle.stepper.specs.Answer.{done, refused, home, spent, refused as runRefused}
-use Rattle.stepper.specs.Step.{After, stepOf}
-use Rattle.stepper.specs.Run.{AfterRun, runFrom, runOf}
+use Rattle.stepper.specs.Step.{stepOf}
+use Rattle.stepper.specs.Run.{runFrom, runOf}
 use Rattle.stepper.specs.Advance.{goFrom, goOf, stepped}
 
 module _ (n b s : ℕ) (r : Registers) (m : List ℕ) where

@@ -5,7 +5,7 @@ use mathlib.Core.List.{List}
 use Prim.Native.Nat.{ℕ}
 use native.Mathlib.Omega.{arith}
 use Rattle.registers.specs.declared.Registers.{Registers}
-use Rattle.stepper.specs.Answer.{Answer, done, refused}
+use Rattle.stepper.specs.Answer.{refused}
 use Rattle.stepper.specs.Step.{Did, did, stopped, didOf, after, stepOf}
 
 by-what : (d : Did) (m : List ℕ) {n p : ℕ} → after d m .answer ≡ refused n p → after d m .memory ≡ m

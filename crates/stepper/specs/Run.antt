@@ -7,7 +7,7 @@ use lib.Dec.{eqb, leb}
 use lib.ListN.{length}
 use Rattle.registers.specs.declared.Registers.{Registers}
 use Rattle.stepper.specs.Answer.{Answer, done, refused, RunAnswer, home, spent, refused as runRefused}
-use Rattle.stepper.specs.Step.{After, stepOf}
+use Rattle.stepper.specs.Step.{stepOf}
 
 pub record AfterRun : Type 0 where
   pub answer : RunAnswer
