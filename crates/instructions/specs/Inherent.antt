@@ -1,6 +1,6 @@
 -- The instructions on the registers alone, a line for each of the manual's entries.
 -- Assumes nothing.
-use Prim.Native.Nat.{ℕ, _+_, _*_, _/_, _%_}
+use Prim.Native.Nat.{ℕ}
 use mathlib.Core.Bool.{Bool, true, false, _&&_}
 use lib.Dec.{eqb}
 use Rattle.registers.specs.Flags.{flagsOf, byteOf}

@@ -1,7 +1,7 @@
 -- What an instruction computes, over values alone: the registers but for PC and SP, the number that it stores, pushes or moves to SP,
 -- and whether it branches. A line for each of the manual's entries, or for a group of them.
 -- Assumes nothing.
-use Prim.Native.Nat.{ℕ, _+_, _*_, _/_, _%_}
+use Prim.Native.Nat.{ℕ}
 use mathlib.Core.Bool.{Bool, false}
 use lib.Dec.{eqb}
 use lib.Bits.{bitAnd}
