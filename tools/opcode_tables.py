@@ -27,7 +27,8 @@ def lines(entries):
 
 def main():
     numbers = read("specs/Numbers.antt")
-    actions, modes = listed(numbers, "allActions"), listed(numbers, "allModes")
+    # TEST has no entry: it is what every number past the list stands for
+    actions, modes = listed(numbers, "allActions") + ["Test"], listed(numbers, "allModes")
     costs, action_at, mode_at = [0] * PLACES, [0] * PLACES, [0] * PLACES
     for row in listed(read("specs/Rows.antt"), "rows"):
         place, action, mode, length, cycles = re.fullmatch(r"row (\w+) (\(.*\)|\w+) (\S+) (\d+) (\d+)", row).groups()

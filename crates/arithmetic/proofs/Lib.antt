@@ -1,3 +1,4 @@
+pub mod Changed
 pub mod Bits
 pub mod Carries
 pub mod Product

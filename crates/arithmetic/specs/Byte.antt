@@ -10,20 +10,17 @@ use Rattle.opcodes.specs.declared.instruction.Unary.{Unary}
 use Rattle.opcodes.specs.declared.instruction.Unary.the-variants.{Neg, Com, Lsr, Ror, Asr, Asl, Rol, Dec, Inc, Clr}
 use Rattle.opcodes.specs.declared.instruction.Binary.{Binary}
 use Rattle.opcodes.specs.declared.instruction.Binary.the-variants.{Sub, Cmp, Sbc, And, Bit, Lda, Eor, Adc, Ora, Add}
-use Rattle.arithmetic.specs.declared.byte.ByteResult.{ByteResult}
 use Rattle.arithmetic.specs.Codes.{carry, borrow, overflowSum, overflowDifference, withNzv, withNzvc, withHnzvc}
-
-abbrev pub result : ℕ → Flags → ByteResult
-result r f = record { value = r; flags = f }
+use Rattle.arithmetic.specs.Result.{Result, result}
 
 -- ADD, ADC, ABA: x + m + c
-unfoldable pub add8Of : ℕ → ℕ → Bool → Flags → ByteResult
+unfoldable pub add8Of : ℕ → ℕ → Bool → Flags → Result
 add8Of x m c f =
     let r = (x + m + one c) % 256 in
     result r (withHnzvc f (carry 3 x m r) (bit 7 r) (eqb r 0) (overflowSum 7 x m r) (carry 7 x m r))
 
 -- SUB, SBC, CMP, SBA, CBA: x - m - c
-unfoldable pub sub8Of : ℕ → ℕ → Bool → Flags → ByteResult
+unfoldable pub sub8Of : ℕ → ℕ → Bool → Flags → Result
 sub8Of x m c f =
     let r = (x + 256 - (m + one c)) % 256 in
     result r (withNzvc f (bit 7 r) (eqb r 0) (overflowDifference 7 x m r) (borrow 7 x m r))
@@ -37,10 +34,10 @@ abbrev pub tstOf : ℕ → Flags → Flags
 tstOf m f = withNzvc f (bit 7 m) (eqb m 0) false false
 
 -- V of a shift or rotate is N ⊕ C, as they are afterwards
-abbrev pub shifted8 : ℕ → Bool → Flags → ByteResult
+abbrev pub shifted8 : ℕ → Bool → Flags → Result
 shifted8 r c f = result r (withNzvc f (bit 7 r) (eqb r 0) (xor (bit 7 r) c) c)
 
-abbrev pub unaryOf : Unary → ℕ → Flags → ByteResult
+abbrev pub unaryOf : Unary → ℕ → Flags → Result
 unaryOf Neg m f = let r = (256 - m) % 256 in result r (withNzvc f (bit 7 r) (eqb r 0) (eqb r 0x80) (not (eqb r 0)))
 unaryOf Com m f = let r = 255 - m in result r (withNzvc f (bit 7 r) (eqb r 0) false true)
 unaryOf Lsr m f = shifted8 (m / 2) (low m) f
@@ -52,11 +49,11 @@ unaryOf Dec m f = let r = (m + 255) % 256 in result r (withNzv f (bit 7 r) (eqb 
 unaryOf Inc m f = let r = (m + 1) % 256 in result r (withNzv f (bit 7 r) (eqb r 0) (eqb m 0x7f))
 unaryOf Clr m f = result 0 (withNzvc f false true false false)
 
-abbrev pub logical : ℕ → Flags → ByteResult
+abbrev pub logical : ℕ → Flags → Result
 logical r f = result r (logic8Of r f)
 
 -- the accumulator x, the operand byte m: what the accumulator becomes. CMP and BIT leave it
-abbrev pub binaryOf : Binary → ℕ → ℕ → Flags → ByteResult
+abbrev pub binaryOf : Binary → ℕ → ℕ → Flags → Result
 binaryOf Sub x m f = sub8Of x m false f
 binaryOf Cmp x m f = result x (sub8Of x m false f .flags)
 binaryOf Sbc x m f = sub8Of x m (f .c) f
@@ -69,8 +66,8 @@ binaryOf Ora x m f = logical (bitOr x m) f
 binaryOf Add x m f = add8Of x m false f
 
 -- BSET: the bits of the mask are set in m. BCLR: they are cleared
-abbrev pub bsetOf : ℕ → ℕ → Flags → ByteResult
+abbrev pub bsetOf : ℕ → ℕ → Flags → Result
 bsetOf m mask f = logical (bitOr m mask) f
 
-abbrev pub bclrOf : ℕ → ℕ → Flags → ByteResult
+abbrev pub bclrOf : ℕ → ℕ → Flags → Result
 bclrOf m mask f = logical (bitAnd m (255 - mask)) f

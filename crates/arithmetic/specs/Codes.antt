@@ -40,6 +40,10 @@ withHnzvc f h n z v c = record { s = f .s; x = f .x; h = h; i = f .i; n = n; z =
 abbrev pub withZ : Flags → Bool → Flags
 withZ f z = withNzvc f (f .n) z (f .v) (f .c)
 
+-- V alone, as CLV has it
+abbrev pub withV : Flags → Bool → Flags
+withV f v = withNzvc f (f .n) (f .z) v (f .c)
+
 -- C alone, as MUL has it
 abbrev pub withC : Flags → Bool → Flags
 withC f c = withNzvc f (f .n) (f .z) (f .v) c

@@ -5,8 +5,8 @@ use mathlib.Core.Bool.{Bool, true, false, _||_}
 use lib.Dec.{eqb, ltb}
 use Rattle.registers.specs.Flags.{bit}
 use Rattle.registers.specs.declared.flags.Flags.{Flags}
-use Rattle.arithmetic.specs.declared.byte.ByteResult.{ByteResult}
 use Rattle.arithmetic.specs.Codes.{withNzvc}
+use Rattle.arithmetic.specs.Result.{Result}
 
 -- n where the test holds, else 0
 abbrev pub when : Bool → ℕ → ℕ
@@ -21,7 +21,7 @@ lowCorrected a f = f .h || ltb 9 (a % 16)
 abbrev pub highCorrected : ℕ → Flags → Bool
 highCorrected a f = f .c || ltb 0x99 a
 
-unfoldable pub daaOf : ℕ → Flags → ByteResult
+unfoldable pub daaOf : ℕ → Flags → Result
 daaOf a f =
     let r = (a + when (lowCorrected a f) 0x06 + when (highCorrected a f) 0x60) % 256 in
     record { value = r; flags = withNzvc f (bit 7 r) (eqb r 0) false (highCorrected a f) }

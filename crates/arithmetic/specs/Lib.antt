@@ -1,4 +1,5 @@
 pub mod Codes
+pub mod Result
 pub mod Byte
 pub mod Word
 pub mod Decimal

@@ -1,96 +1,51 @@
-// The condition codes with some of them changed, and V of a sum or a difference.
+// The byte of the condition codes with some of them changed, and V of a sum or a difference.
 ghost use mathlib.Core.Path.{_≡_};
-ghost use Rattle.arithmetic.specs.Codes.{withNzvc, withNzv, withHnzvc, withZ, withC, withZvc, overflowBits};
-use registers::flags::Flags;
+ghost use Rattle.registers.specs.Flags.{flagsOf, byteOf};
+ghost use Rattle.arithmetic.specs.Codes.{withNzvc, withNzv, withHnzvc, withZ, withV, withC, withZvc, overflowBits};
+use registers::flags::one;
 
-pub fn with_nzvc(f: Flags, n: bool, z: bool, v: bool, c: bool) -> Flags
-    ensures { λ r. ⌜ r ≡ withNzvc f n z v c ⌝ }
+// S, X, H and I stay: they are the upper half of the byte.
+pub fn with_nzvc(f: u8, n: bool, z: bool, v: bool, c: bool) -> u8
+    ensures { λ r. ⌜ r ≡ byteOf (withNzvc (flagsOf f) n z v c) ⌝ }
 {
-    Flags {
-        s: f.s,
-        x: f.x,
-        h: f.h,
-        i: f.i,
-        n: n,
-        z: z,
-        v: v,
-        c: c,
-    }
+    f / 16 * 16 + 8 * one(n) + 4 * one(z) + 2 * one(v) + one(c)
 }
 
-pub fn with_nzv(f: Flags, n: bool, z: bool, v: bool) -> Flags
-    ensures { λ r. ⌜ r ≡ withNzv f n z v ⌝ }
+pub fn with_nzv(f: u8, n: bool, z: bool, v: bool) -> u8
+    ensures { λ r. ⌜ r ≡ byteOf (withNzv (flagsOf f) n z v) ⌝ }
 {
-    Flags {
-        s: f.s,
-        x: f.x,
-        h: f.h,
-        i: f.i,
-        n: n,
-        z: z,
-        v: v,
-        c: f.c,
-    }
+    with_nzvc(f, n, z, v, f % 2 == 1)
 }
 
-pub fn with_hnzvc(f: Flags, h: bool, n: bool, z: bool, v: bool, c: bool) -> Flags
-    ensures { λ r. ⌜ r ≡ withHnzvc f h n z v c ⌝ }
+// S, X and I stay.
+pub fn with_hnzvc(f: u8, h: bool, n: bool, z: bool, v: bool, c: bool) -> u8
+    ensures { λ r. ⌜ r ≡ byteOf (withHnzvc (flagsOf f) h n z v c) ⌝ }
 {
-    Flags {
-        s: f.s,
-        x: f.x,
-        h: h,
-        i: f.i,
-        n: n,
-        z: z,
-        v: v,
-        c: c,
-    }
+    f / 64 * 64 + 32 * one(h) + f / 16 % 2 * 16 + 8 * one(n) + 4 * one(z) + 2 * one(v) + one(c)
 }
 
-pub fn with_z(f: Flags, z: bool) -> Flags
-    ensures { λ r. ⌜ r ≡ withZ f z ⌝ }
+pub fn with_z(f: u8, z: bool) -> u8
+    ensures { λ r. ⌜ r ≡ byteOf (withZ (flagsOf f) z) ⌝ }
 {
-    Flags {
-        s: f.s,
-        x: f.x,
-        h: f.h,
-        i: f.i,
-        n: f.n,
-        z: z,
-        v: f.v,
-        c: f.c,
-    }
+    with_nzvc(f, f / 8 % 2 == 1, z, f / 2 % 2 == 1, f % 2 == 1)
 }
 
-pub fn with_c(f: Flags, c: bool) -> Flags
-    ensures { λ r. ⌜ r ≡ withC f c ⌝ }
+pub fn with_v(f: u8, v: bool) -> u8
+    ensures { λ r. ⌜ r ≡ byteOf (withV (flagsOf f) v) ⌝ }
 {
-    Flags {
-        s: f.s,
-        x: f.x,
-        h: f.h,
-        i: f.i,
-        n: f.n,
-        z: f.z,
-        v: f.v,
-        c: c,
-    }
+    with_nzvc(f, f / 8 % 2 == 1, f / 4 % 2 == 1, v, f % 2 == 1)
 }
 
-pub fn with_zvc(f: Flags, z: bool, v: bool, c: bool) -> Flags
-    ensures { λ r. ⌜ r ≡ withZvc f z v c ⌝ }
+pub fn with_c(f: u8, c: bool) -> u8
+    ensures { λ r. ⌜ r ≡ byteOf (withC (flagsOf f) c) ⌝ }
 {
-    Flags {
-        s: f.s,
-        x: f.x,
-        h: f.h,
-        i: f.i,
-        n: f.n,
-        z: z,
-        v: v,
-        c: c,
-    }
+    with_nzvc(f, f / 8 % 2 == 1, f / 4 % 2 == 1, f / 2 % 2 == 1, c)
+}
+
+pub fn with_zvc(f: u8, z: bool, v: bool, c: bool) -> u8
+    ensures { λ r. ⌜ r ≡ byteOf (withZvc (flagsOf f) z v c) ⌝ }
+{
+    with_nzvc(f, f / 8 % 2 == 1, z, v, c)
 }
 
 // V of the sum of x and m, from their sign bits and the result's. A difference is such a sum with m's sign bit turned round.

@@ -2,21 +2,22 @@
 ghost use mathlib.Core.Path.{_≡_};
 ghost use mathlib.Core.Bool.{false};
 ghost use lib.Dec.{eqb};
+ghost use Rattle.registers.specs.Flags.{flagsOf};
 ghost use Rattle.arithmetic.specs.Codes.{withZvc};
+ghost use Rattle.arithmetic.specs.Result.{packedDivided};
 ghost use Rattle.arithmetic.specs.Divide.{divided, idivOf, fdivOf};
 use crate::codes::with_zvc;
-use registers::flags::Flags;
 
 // The quotient goes to X, the remainder to D.
 pub struct Divided {
     pub quotient: u16,
     pub remainder: u16,
-    pub flags: Flags,
+    pub flags: u8,
 }
 
 // A quotient and its remainder that are words.
-fn with_quotient(q: u16, r: u16, f: Flags) -> Divided
-    ensures { λ w. ⌜ w ≡ divided q r (withZvc f (eqb q 0) false false) ⌝ }
+fn with_quotient(q: u16, r: u16, f: u8) -> Divided
+    ensures { λ w. ⌜ w ≡ packedDivided (divided q r (withZvc (flagsOf f) (eqb q 0) false false)) ⌝ }
 {
     Divided {
         quotient: q,
@@ -26,8 +27,8 @@ fn with_quotient(q: u16, r: u16, f: Flags) -> Divided
 }
 
 // No quotient: $FFFF, and D stays.
-fn no_quotient(d: u16, v: bool, c: bool, f: Flags) -> Divided
-    ensures { λ w. ⌜ w ≡ divided 0xffff d (withZvc f false v c) ⌝ }
+fn no_quotient(d: u16, v: bool, c: bool, f: u8) -> Divided
+    ensures { λ w. ⌜ w ≡ packedDivided (divided 0xffff d (withZvc (flagsOf f) false v c)) ⌝ }
 {
     Divided {
         quotient: 0xffff,
@@ -37,8 +38,8 @@ fn no_quotient(d: u16, v: bool, c: bool, f: Flags) -> Divided
 }
 
 // By zero there is no quotient, and C is set.
-pub fn idiv(d: u16, x: u16, f: Flags) -> Divided
-    ensures { λ r. ⌜ r ≡ idivOf d x f ⌝ }
+pub fn idiv(d: u16, x: u16, f: u8) -> Divided
+    ensures { λ r. ⌜ r ≡ packedDivided (idivOf d x (flagsOf f)) ⌝ }
 {
     if x == 0 {
         return no_quotient(d, false, true, f);
@@ -47,8 +48,8 @@ pub fn idiv(d: u16, x: u16, f: Flags) -> Divided
 }
 
 // With X at or below D there is no quotient, and V is set; C says whether X was zero.
-pub fn fdiv(d: u16, x: u16, f: Flags) -> Divided
-    ensures { λ r. ⌜ r ≡ fdivOf d x f ⌝ }
+pub fn fdiv(d: u16, x: u16, f: u8) -> Divided
+    ensures { λ r. ⌜ r ≡ packedDivided (fdivOf d x (flagsOf f)) ⌝ }
 {
     if x <= d {
         return no_quotient(d, true, x == 0, f);

@@ -1,23 +1,24 @@
 // The operations on words, with their condition codes.
 ghost use mathlib.Core.Path.{_≡_};
 ghost use lib.Dec.{eqb};
-ghost use Rattle.registers.specs.Flags.{bit};
+ghost use Rattle.registers.specs.Flags.{bit, flagsOf, byteOf};
 ghost use Rattle.arithmetic.specs.Codes.{withNzvc};
-ghost use Rattle.arithmetic.specs.Word.{result, add16Of, sub16Of, logic16Of, shifted16, asldOf, lsrdOf, mulOf};
+ghost use Rattle.arithmetic.specs.Result.{result, packed16};
+ghost use Rattle.arithmetic.specs.Word.{add16Of, sub16Of, logic16Of, shifted16, asldOf, lsrdOf, mulOf};
 use crate::codes::overflow;
 use crate::codes::with_c;
 use crate::codes::with_nzv;
 use crate::codes::with_nzvc;
-use registers::flags::Flags;
+use registers::word::down;
 
 pub struct WordResult {
     pub value: u16,
-    pub flags: Flags,
+    pub flags: u8,
 }
 
 // The word r with N and Z of it, and V and C as given.
-fn coded(r: u16, v: bool, c: bool, f: Flags) -> WordResult
-    ensures { λ w. ⌜ w ≡ result r (withNzvc f (bit 15 r) (eqb r 0) v c) ⌝ }
+fn coded(r: u16, v: bool, c: bool, f: u8) -> WordResult
+    ensures { λ w. ⌜ w ≡ packed16 (result r (withNzvc (flagsOf f) (bit 15 r) (eqb r 0) v c)) ⌝ }
 {
     WordResult {
         value: r,
@@ -26,8 +27,8 @@ fn coded(r: u16, v: bool, c: bool, f: Flags) -> WordResult
 }
 
 // ADDD. C is read off the sum.
-pub fn add16(x: u16, m: u16, f: Flags) -> WordResult
-    ensures { λ r. ⌜ r ≡ add16Of x m f ⌝ }
+pub fn add16(x: u16, m: u16, f: u8) -> WordResult
+    ensures { λ r. ⌜ r ≡ packed16 (add16Of x m (flagsOf f)) ⌝ }
 {
     let sum = (x as u32) + (m as u32);
     let r = (sum % 65536) as u16;
@@ -36,10 +37,10 @@ pub fn add16(x: u16, m: u16, f: Flags) -> WordResult
 }
 
 // SUBD, CPD, CPX, CPY. C says that m is more than x.
-pub fn sub16(x: u16, m: u16, f: Flags) -> WordResult
-    ensures { λ r. ⌜ r ≡ sub16Of x m f ⌝ }
+pub fn sub16(x: u16, m: u16, f: u8) -> WordResult
+    ensures { λ r. ⌜ r ≡ packed16 (sub16Of x m (flagsOf f)) ⌝ }
 {
-    let r = (((x as u32) + 65536 - (m as u32)) % 65536) as u16;
+    let r = down(x, m);
     let v = overflow(
         x / 32768 % 2 == 1,
         !(m / 32768 % 2 == 1),
@@ -49,34 +50,34 @@ pub fn sub16(x: u16, m: u16, f: Flags) -> WordResult
 }
 
 // Loads and stores.
-pub fn logic16(r: u16, f: Flags) -> Flags
-    ensures { λ g. ⌜ g ≡ logic16Of r f ⌝ }
+pub fn logic16(r: u16, f: u8) -> u8
+    ensures { λ g. ⌜ g ≡ byteOf (logic16Of r (flagsOf f)) ⌝ }
 {
     with_nzv(f, r / 32768 % 2 == 1, r == 0, false)
 }
 
 // The word r, out of which the bit c was shifted.
-fn shifted(r: u16, c: bool, f: Flags) -> WordResult
-    ensures { λ w. ⌜ w ≡ shifted16 r c f ⌝ }
+fn shifted(r: u16, c: bool, f: u8) -> WordResult
+    ensures { λ w. ⌜ w ≡ packed16 (shifted16 r c (flagsOf f)) ⌝ }
 {
     coded(r, (r / 32768 % 2 == 1) ^ c, c, f)
 }
 
-pub fn asld(d: u16, f: Flags) -> WordResult
-    ensures { λ r. ⌜ r ≡ asldOf d f ⌝ }
+pub fn asld(d: u16, f: u8) -> WordResult
+    ensures { λ r. ⌜ r ≡ packed16 (asldOf d (flagsOf f)) ⌝ }
 {
     shifted((2 * (d as u32) % 65536) as u16, d / 32768 % 2 == 1, f)
 }
 
-pub fn lsrd(d: u16, f: Flags) -> WordResult
-    ensures { λ r. ⌜ r ≡ lsrdOf d f ⌝ }
+pub fn lsrd(d: u16, f: u8) -> WordResult
+    ensures { λ r. ⌜ r ≡ packed16 (lsrdOf d (flagsOf f)) ⌝ }
 {
     shifted(d / 2, d % 2 == 1, f)
 }
 
 // C is bit 7 of the product.
-pub fn mul(a: u8, b: u8, f: Flags) -> WordResult
-    ensures { λ r. ⌜ r ≡ mulOf a b f ⌝ }
+pub fn mul(a: u8, b: u8, f: u8) -> WordResult
+    ensures { λ r. ⌜ r ≡ packed16 (mulOf a b (flagsOf f)) ⌝ }
 {
     let p = (a as u16) * (b as u16);
     WordResult {

@@ -1,3 +1,5 @@
-pub mod Rest
 pub mod Effects
 pub mod Branch
+pub mod Sited
+pub mod Skipped
+pub mod Arms

@@ -15,24 +15,19 @@ use Rattle.arithmetic.specs.Byte.{add8Of, sub8Of, logic8Of}
 use Rattle.arithmetic.specs.Word.{asldOf, lsrdOf, mulOf}
 use Rattle.arithmetic.specs.Decimal.{daaOf}
 use Rattle.arithmetic.specs.Divide.{idivOf, fdivOf}
-use Rattle.arithmetic.specs.declared.byte.ByteResult.{ByteResult}
-use Rattle.arithmetic.specs.declared.word.WordResult.{WordResult}
-use Rattle.arithmetic.specs.declared.divide.Divided.{Divided}
+use Rattle.arithmetic.specs.Result.{Result, Quotient}
 
 abbrev pub codes : Data → Flags
 codes d = flagsOf (d .flags)
 
--- a result goes to A, to B, to D, or to X and D, with its condition codes
-abbrev pub toA : Data → ByteResult → Data
+-- a result goes to A, to D, or to X and D, with its condition codes
+abbrev pub toA : Data → Result → Data
 toA d w = withA d (w .value) (byteOf (w .flags))
 
-abbrev pub toB : Data → ByteResult → Data
-toB d w = withB d (w .value) (byteOf (w .flags))
-
-abbrev pub toD : Data → WordResult → Data
+abbrev pub toD : Data → Result → Data
 toD d w = withD d (w .value) (byteOf (w .flags))
 
-abbrev pub toXD : Data → Divided → Data
+abbrev pub toXD : Data → Quotient → Data
 toXD d w = withX (withD d (w .remainder) (byteOf (w .flags))) (w .quotient) (byteOf (w .flags))
 
 -- the condition codes with Z of a counted index register

@@ -21,8 +21,8 @@ use Rattle.opcodes.specs.declared.instruction.Action.{Action}
 use Rattle.opcodes.specs.declared.instruction.Action.the-variants.{Inherent, Unary, TstAccumulator, Binary, TstMemory, LoadWord, Addd, Subd, CompareWord, StoreByte, StoreWord, Modify, Bset, Bclr, Brset, Brclr, Branch, Jmp, Call, Rts, PushByte, PushWord, PullByte, PullWord, Des, Ins, SetStack, Swi, Rti, Wai, Stop, Test}
 use Rattle.arithmetic.specs.Byte.{unaryOf, binaryOf, bsetOf, bclrOf, logic8Of, tstOf}
 use Rattle.arithmetic.specs.Word.{add16Of, sub16Of, logic16Of}
-use Rattle.arithmetic.specs.declared.byte.ByteResult.{ByteResult}
-use Rattle.instructions.specs.Inherent.{codes, toA, toB, toD, inherentOf}
+use Rattle.arithmetic.specs.Result.{Result}
+use Rattle.instructions.specs.Inherent.{codes, toD, inherentOf}
 
 pub record Outcome : Type 0 where
   pub regs : Data
@@ -45,22 +45,22 @@ unfoldable pub accumulatorOf : Accumulator → Data → ℕ
 accumulatorOf Acc.A d = d .a
 accumulatorOf Acc.B d = d .b
 
-unfoldable pub toAccumulator : Accumulator → Data → ByteResult → Data
-toAccumulator Acc.A d w = toA d w
-toAccumulator Acc.B d w = toB d w
+unfoldable pub withAccumulator : Accumulator → Data → ℕ → ℕ → Data
+withAccumulator Acc.A d v f = withA d v f
+withAccumulator Acc.B d v f = withB d v f
+
+-- a result with its condition codes
+abbrev pub toAccumulator : Accumulator → Data → Result → Data
+toAccumulator c d w = withAccumulator c d (w .value) (byteOf (w .flags))
 
 unfoldable pub indexOf : Index → Data → ℕ
 indexOf Ix.X d = d .x
 indexOf Ix.Y d = d .y
 
--- a pull changes no condition code
-unfoldable pub pulledByteTo : Accumulator → Data → ℕ → Data
-pulledByteTo Acc.A d v = withA d v (d .flags)
-pulledByteTo Acc.B d v = withB d v (d .flags)
-
-unfoldable pub pulledWordTo : Index → Data → ℕ → Data
-pulledWordTo Ix.X d v = withX d v (d .flags)
-pulledWordTo Ix.Y d v = withY d v (d .flags)
+-- PULX and PULY: a pull changes no condition code
+unfoldable pub withIndex : Index → Data → ℕ → Data
+withIndex Ix.X d v = withX d v (d .flags)
+withIndex Ix.Y d v = withY d v (d .flags)
 
 unfoldable pub wordOf : Word → ℕ → Data → ℕ
 wordOf Wd.D sp d = accumulatorD d
@@ -84,7 +84,7 @@ abbrev pub tested16 : ℕ → Data → Data
 tested16 v d = withFlags d (byteOf (logic16Of v (codes d)))
 
 -- a byte made for memory, with its condition codes
-abbrev pub modifies : Data → ByteResult → Outcome
+abbrev pub modifies : Data → Result → Outcome
 modifies d w = gives (w .value) (withFlags d (byteOf (w .flags)))
 
 -- BRSET: every bit of the mask is set in v; BRCLR: none is
@@ -117,8 +117,8 @@ compute Call k v sp d = computes d
 compute Rts k v sp d = computes d
 compute (PushByte c) k v sp d = gives (accumulatorOf c d) d
 compute (PushWord i) k v sp d = gives (indexOf i d) d
-compute (PullByte c) k v sp d = computes (pulledByteTo c d v)
-compute (PullWord i) k v sp d = computes (pulledWordTo i d v)
+compute (PullByte c) k v sp d = computes (withAccumulator c d v (d .flags))
+compute (PullWord i) k v sp d = computes (withIndex i d v)
 compute Des k v sp d = computes d
 compute Ins k v sp d = computes d
 compute (SetStack i) k v sp d = gives (less (indexOf i d) 1) d

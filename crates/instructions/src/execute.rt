@@ -1,144 +1,265 @@
-// One instruction, whose registers have PC past it: what it reads, computes and writes.
+// One instruction, by the number of its action: what it reads, computes and writes. The numbers are those of specs/Numbers.antt of opcodes, in four
+// groups of fewer than fifty: so each arm, a call with its case as a constant, is compiled into the loop that runs the instructions.
 ghost use mathlib.Core.Path.{_≡_};
+ghost use mathlib.Core.Bool.{true};
 ghost use lib.ListN.{length};
-ghost use Rattle.registers.specs.Registers.{withPc};
-ghost use Rattle.opcodes.specs.Decode.{pick};
-ghost use Rattle.opcodes.specs.Form.{targetIn};
+ghost use Prim.Native.Nat.{_<_, _≤_};
+ghost use Rattle.opcodes.specs.Numbers.{actionOf, modeOf};
+ghost use Rattle.opcodes.specs.Fits.{fits};
 ghost use Rattle.instructions.specs.Effect.{effectOf, Executed};
-use crate::compute::accumulator;
-use crate::compute::added;
-use crate::compute::all_set;
-use crate::compute::binary_on;
-use crate::compute::compared;
-use crate::compute::index;
-use crate::compute::loaded;
-use crate::compute::none_set;
-use crate::compute::pulled_byte;
-use crate::compute::pulled_word;
-use crate::compute::subtracted;
-use crate::compute::tested;
-use crate::compute::unary_on;
-use crate::compute::word;
-use crate::inherent::inherent;
+ghost use Rattle.instructions.specs.Sited.{operandFrom, Does, Leaves, ReadsAt, DoesAt};
 use crate::interrupt::interrupt;
 use crate::interrupt::resume;
-use crate::operand::branch_target;
-use crate::operand::byte_operand;
-use crate::operand::mask_of;
-use crate::operand::operand_address;
-use crate::operand::word_operand;
-use crate::store::call;
+use crate::jump::branch;
+use crate::jump::branch_clear;
+use crate::jump::branch_set;
+use crate::jump::call;
+use crate::jump::jump;
+use crate::operand::address;
+use crate::operand::bit_target;
+use crate::operand::mask;
+use crate::stack::pull_byte;
+use crate::stack::pull_word;
+use crate::stack::push_byte;
+use crate::stack::push_word;
+use crate::stack::release;
+use crate::stack::reserve;
+use crate::stack::return_from;
+use crate::stack::set_stack;
 use crate::store::clear_bits;
 use crate::store::modify;
-use crate::store::push_byte;
-use crate::store::push_word;
 use crate::store::set_bits;
 use crate::store::store_byte;
 use crate::store::store_word;
+use crate::values::add_word;
+use crate::values::binary_on;
+use crate::values::compare_word;
+use crate::values::inherent_on;
+use crate::values::load_word;
+use crate::values::subtract_word;
+use crate::values::test_accumulator;
+use crate::values::test_byte;
+use crate::values::unary_on;
 use memory::byte_at;
 use memory::word_at;
-use opcodes::condition::holds;
 use opcodes::instruction::Accumulator;
-use opcodes::instruction::Action;
+use opcodes::instruction::Binary;
 use opcodes::instruction::Index;
-use opcodes::instruction::Operand;
+use opcodes::instruction::Inherent;
+use opcodes::instruction::Unary;
 use opcodes::instruction::Word;
 use registers::Registers;
-use registers::word::down;
-use registers::word::up;
 
-// LDS moves SP, the others a register of the data.
-fn load_word(w: Word, o: Operand, r: Registers, mem: &[u8]) -> Registers
-    requires { ⌜ length (now mem) ≡ 65536 ⌝ }
-    ensures { λ q. ⌜ Executed (effectOf (Action.LoadWord w) o r (now (mem .entry))) q (now (mem .entry)) (now (mem .entry)) ⌝ }
+// 0 to 29: the registers alone.
+fn on_registers(n: u8, r: Registers) -> Registers
+    requires { ⌜ n < 30 ⌝ }
+    ensures { λ q. ⌜ Leaves (actionOf n) r q ⌝ }
 {
-    let v = word_operand(o, r, mem);
-    let q = r.with_data(loaded(w, v, r.data()));
-    match w {
-        Word::D => q,
-        Word::X => q,
-        Word::Y => q,
-        Word::S => q.with_sp(v),
+    match n {
+        0 => inherent_on(Inherent::Nop, r),
+        1 => inherent_on(Inherent::Idiv, r),
+        2 => inherent_on(Inherent::Fdiv, r),
+        3 => inherent_on(Inherent::Lsrd, r),
+        4 => inherent_on(Inherent::Asld, r),
+        5 => inherent_on(Inherent::Tap, r),
+        6 => inherent_on(Inherent::Tpa, r),
+        7 => inherent_on(Inherent::Inx, r),
+        8 => inherent_on(Inherent::Dex, r),
+        9 => inherent_on(Inherent::Iny, r),
+        10 => inherent_on(Inherent::Dey, r),
+        11 => inherent_on(Inherent::Clv, r),
+        12 => inherent_on(Inherent::Sev, r),
+        13 => inherent_on(Inherent::Clc, r),
+        14 => inherent_on(Inherent::Sec, r),
+        15 => inherent_on(Inherent::Cli, r),
+        16 => inherent_on(Inherent::Sei, r),
+        17 => inherent_on(Inherent::Sba, r),
+        18 => inherent_on(Inherent::Cba, r),
+        19 => inherent_on(Inherent::Tab, r),
+        20 => inherent_on(Inherent::Tba, r),
+        21 => inherent_on(Inherent::Daa, r),
+        22 => inherent_on(Inherent::Aba, r),
+        23 => inherent_on(Inherent::Tsx, r),
+        24 => inherent_on(Inherent::Tsy, r),
+        25 => inherent_on(Inherent::Abx, r),
+        26 => inherent_on(Inherent::Aby, r),
+        27 => inherent_on(Inherent::Mul, r),
+        28 => inherent_on(Inherent::Xgdx, r),
+        29 => inherent_on(Inherent::Xgdy, r),
+        _ => r,
     }
 }
 
-// On to the target of a branch that is taken.
-fn branch(taken: bool, o: Operand, r: Registers) -> Registers
-    ensures { λ q. ⌜ q ≡ withPc r (pick taken (targetIn o (r .pc)) (r .pc)) ⌝ }
+// 30 to 66: an accumulator, or the stack.
+fn on_stack(n: u8, r: Registers, mem: &mut [u8]) -> Registers
+    requires { ⌜ length (now mem) ≡ 65536 ⌝ }
+    requires { ⌜ 30 ≤ n ⌝ }
+    requires { ⌜ n < 67 ⌝ }
+    ensures { λ q. ⌜ Does (actionOf n) r (now (mem .entry)) q (now (mem .exit)) ⌝ }
 {
-    if taken {
-        r.with_pc(branch_target(o, r.pc))
+    match n {
+        30 => unary_on(Unary::Neg, Accumulator::A, r),
+        31 => unary_on(Unary::Com, Accumulator::A, r),
+        32 => unary_on(Unary::Lsr, Accumulator::A, r),
+        33 => unary_on(Unary::Ror, Accumulator::A, r),
+        34 => unary_on(Unary::Asr, Accumulator::A, r),
+        35 => unary_on(Unary::Asl, Accumulator::A, r),
+        36 => unary_on(Unary::Rol, Accumulator::A, r),
+        37 => unary_on(Unary::Dec, Accumulator::A, r),
+        38 => unary_on(Unary::Inc, Accumulator::A, r),
+        39 => unary_on(Unary::Clr, Accumulator::A, r),
+        40 => unary_on(Unary::Neg, Accumulator::B, r),
+        41 => unary_on(Unary::Com, Accumulator::B, r),
+        42 => unary_on(Unary::Lsr, Accumulator::B, r),
+        43 => unary_on(Unary::Ror, Accumulator::B, r),
+        44 => unary_on(Unary::Asr, Accumulator::B, r),
+        45 => unary_on(Unary::Asl, Accumulator::B, r),
+        46 => unary_on(Unary::Rol, Accumulator::B, r),
+        47 => unary_on(Unary::Dec, Accumulator::B, r),
+        48 => unary_on(Unary::Inc, Accumulator::B, r),
+        49 => unary_on(Unary::Clr, Accumulator::B, r),
+        50 => test_accumulator(Accumulator::A, r),
+        51 => test_accumulator(Accumulator::B, r),
+        52 => return_from(r, mem),
+        53 => push_byte(Accumulator::A, r, mem),
+        54 => push_byte(Accumulator::B, r, mem),
+        55 => push_word(Index::X, r, mem),
+        56 => push_word(Index::Y, r, mem),
+        57 => pull_byte(Accumulator::A, r, mem),
+        58 => pull_byte(Accumulator::B, r, mem),
+        59 => pull_word(Index::X, r, mem),
+        60 => pull_word(Index::Y, r, mem),
+        61 => reserve(r),
+        62 => release(r),
+        63 => set_stack(Index::X, r),
+        64 => set_stack(Index::Y, r),
+        65 => interrupt(r, mem),
+        66 => resume(r, mem),
+        _ => r,
+    }
+}
+
+// 67 to 96: an operand is read at its address.
+fn on_operand(n: u8, at: u16, r: Registers, mem: &[u8]) -> Registers
+    requires { ⌜ length (now mem) ≡ 65536 ⌝ }
+    requires { ⌜ 67 ≤ n ⌝ }
+    requires { ⌜ n < 97 ⌝ }
+    ensures { λ q. ⌜ ReadsAt (actionOf n) at r (now (mem .entry)) q ⌝ }
+{
+    match n {
+        67 => binary_on(Binary::Sub, Accumulator::A, byte_at(mem, at), r),
+        68 => binary_on(Binary::Cmp, Accumulator::A, byte_at(mem, at), r),
+        69 => binary_on(Binary::Sbc, Accumulator::A, byte_at(mem, at), r),
+        70 => binary_on(Binary::And, Accumulator::A, byte_at(mem, at), r),
+        71 => binary_on(Binary::Bit, Accumulator::A, byte_at(mem, at), r),
+        72 => binary_on(Binary::Lda, Accumulator::A, byte_at(mem, at), r),
+        73 => binary_on(Binary::Eor, Accumulator::A, byte_at(mem, at), r),
+        74 => binary_on(Binary::Adc, Accumulator::A, byte_at(mem, at), r),
+        75 => binary_on(Binary::Ora, Accumulator::A, byte_at(mem, at), r),
+        76 => binary_on(Binary::Add, Accumulator::A, byte_at(mem, at), r),
+        77 => binary_on(Binary::Sub, Accumulator::B, byte_at(mem, at), r),
+        78 => binary_on(Binary::Cmp, Accumulator::B, byte_at(mem, at), r),
+        79 => binary_on(Binary::Sbc, Accumulator::B, byte_at(mem, at), r),
+        80 => binary_on(Binary::And, Accumulator::B, byte_at(mem, at), r),
+        81 => binary_on(Binary::Bit, Accumulator::B, byte_at(mem, at), r),
+        82 => binary_on(Binary::Lda, Accumulator::B, byte_at(mem, at), r),
+        83 => binary_on(Binary::Eor, Accumulator::B, byte_at(mem, at), r),
+        84 => binary_on(Binary::Adc, Accumulator::B, byte_at(mem, at), r),
+        85 => binary_on(Binary::Ora, Accumulator::B, byte_at(mem, at), r),
+        86 => binary_on(Binary::Add, Accumulator::B, byte_at(mem, at), r),
+        87 => test_byte(byte_at(mem, at), r),
+        88 => load_word(Word::D, word_at(mem, at), r),
+        89 => load_word(Word::X, word_at(mem, at), r),
+        90 => load_word(Word::Y, word_at(mem, at), r),
+        91 => load_word(Word::S, word_at(mem, at), r),
+        92 => add_word(word_at(mem, at), r),
+        93 => subtract_word(word_at(mem, at), r),
+        94 => compare_word(Word::D, word_at(mem, at), r),
+        95 => compare_word(Word::X, word_at(mem, at), r),
+        96 => compare_word(Word::Y, word_at(mem, at), r),
+        _ => r,
+    }
+}
+
+// 97 to 134: an operand's address is written to or gone to, or its bits are tested.
+fn on_address(n: u8, at: u16, from: u16, r: Registers, mem: &mut [u8]) -> Registers
+    requires { ⌜ length (now mem) ≡ 65536 ⌝ }
+    requires { ⌜ 97 ≤ n ⌝ }
+    requires { ⌜ n < 135 ⌝ }
+    ensures { λ q. ⌜ DoesAt (actionOf n) at from r (now (mem .entry)) q (now (mem .exit)) ⌝ }
+{
+    match n {
+        97 => store_byte(Accumulator::A, at, r, mem),
+        98 => store_byte(Accumulator::B, at, r, mem),
+        99 => store_word(Word::D, at, r, mem),
+        100 => store_word(Word::X, at, r, mem),
+        101 => store_word(Word::Y, at, r, mem),
+        102 => store_word(Word::S, at, r, mem),
+        103 => modify(Unary::Neg, at, r, mem),
+        104 => modify(Unary::Com, at, r, mem),
+        105 => modify(Unary::Lsr, at, r, mem),
+        106 => modify(Unary::Ror, at, r, mem),
+        107 => modify(Unary::Asr, at, r, mem),
+        108 => modify(Unary::Asl, at, r, mem),
+        109 => modify(Unary::Rol, at, r, mem),
+        110 => modify(Unary::Dec, at, r, mem),
+        111 => modify(Unary::Inc, at, r, mem),
+        112 => modify(Unary::Clr, at, r, mem),
+        113 => set_bits(mask(from, mem), at, r, mem),
+        114 => clear_bits(mask(from, mem), at, r, mem),
+        115 => branch_set(
+            byte_at(mem, at),
+            mask(from, mem),
+            bit_target(from, r.pc, mem),
+            r,
+        ),
+        116 => branch_clear(
+            byte_at(mem, at),
+            mask(from, mem),
+            bit_target(from, r.pc, mem),
+            r,
+        ),
+        117 => branch(0, at, r),
+        118 => branch(1, at, r),
+        119 => branch(2, at, r),
+        120 => branch(3, at, r),
+        121 => branch(4, at, r),
+        122 => branch(5, at, r),
+        123 => branch(6, at, r),
+        124 => branch(7, at, r),
+        125 => branch(8, at, r),
+        126 => branch(9, at, r),
+        127 => branch(10, at, r),
+        128 => branch(11, at, r),
+        129 => branch(12, at, r),
+        130 => branch(13, at, r),
+        131 => branch(14, at, r),
+        132 => branch(15, at, r),
+        133 => jump(at, r),
+        134 => call(at, r, mem),
+        _ => r,
+    }
+}
+
+// Action n with an operand of mode k, whose bytes start at `from`; PC stands past the instruction.
+pub fn execute(n: u8, k: u8, from: u16, r: Registers, mem: &mut [u8]) -> Registers
+    requires { ⌜ length (now mem) ≡ 65536 ⌝ }
+    requires { ⌜ n < 135 ⌝ }
+    requires { ⌜ fits (actionOf n) (modeOf k) ≡ true ⌝ }
+    ensures { λ q. ⌜ Executed (effectOf (actionOf n) (operandFrom (modeOf k) from (now (mem .entry))) r (now (mem .entry))) q (now (mem .entry)) (now (mem .exit)) ⌝ }
+{
+    if n < 67 {
+        if n < 30 {
+            on_registers(n, r)
+        } else {
+            on_stack(n, r, mem)
+        }
     } else {
-        r
-    }
-}
-
-fn pull_byte(c: Accumulator, r: Registers, mem: &[u8]) -> Registers
-    requires { ⌜ length (now mem) ≡ 65536 ⌝ }
-    ensures { λ q. ⌜ q ≡ effectOf (Action.PullByte c) Operand.Inherent r (now (mem .entry)) .regs ⌝ }
-{
-    let s = up(r.sp, 1);
-    let v = byte_at(mem, s);
-    r.with_data(pulled_byte(c, r.data(), v)).with_sp(s)
-}
-
-fn pull_word(i: Index, r: Registers, mem: &[u8]) -> Registers
-    requires { ⌜ length (now mem) ≡ 65536 ⌝ }
-    ensures { λ q. ⌜ q ≡ effectOf (Action.PullWord i) Operand.Inherent r (now (mem .entry)) .regs ⌝ }
-{
-    let v = word_at(mem, up(r.sp, 1));
-    r.with_data(pulled_word(i, r.data(), v))
-        .with_sp(up(r.sp, 2))
-}
-
-fn return_from(r: Registers, mem: &[u8]) -> Registers
-    requires { ⌜ length (now mem) ≡ 65536 ⌝ }
-    ensures { λ q. ⌜ q ≡ effectOf Action.Rts Operand.Inherent r (now (mem .entry)) .regs ⌝ }
-{
-    r.with_pc_sp(word_at(mem, up(r.sp, 1)), up(r.sp, 2))
-}
-
-pub fn execute(a: Action, o: Operand, r: Registers, mem: &mut [u8]) -> Registers
-    requires { ⌜ length (now mem) ≡ 65536 ⌝ }
-    ensures { λ q. ⌜ Executed (effectOf a o r (now (mem .entry))) q (now (mem .entry)) (now (mem .exit)) ⌝ }
-{
-    let d = r.data();
-    match a {
-        Action::Inherent(i) => r.with_data(inherent(i, r.sp, d)),
-        Action::Unary(u, c) => r.with_data(unary_on(u, c, d)),
-        Action::TstAccumulator(c) => r.with_data(tested(accumulator(c, d), d)),
-        Action::Binary(b, c) => r.with_data(binary_on(b, c, byte_operand(o, r, mem), d)),
-        Action::TstMemory => r.with_data(tested(byte_operand(o, r, mem), d)),
-        Action::LoadWord(w) => load_word(w, o, r, mem),
-        Action::Addd => r.with_data(added(word_operand(o, r, mem), d)),
-        Action::Subd => r.with_data(subtracted(word_operand(o, r, mem), d)),
-        Action::CompareWord(w) => r.with_data(compared(
-            word(w, r.sp, d),
-            word_operand(o, r, mem),
-            d,
-        )),
-        Action::StoreByte(c) => store_byte(c, o, r, mem),
-        Action::StoreWord(w) => store_word(w, o, r, mem),
-        Action::Modify(u) => modify(u, o, r, mem),
-        Action::Bset => set_bits(o, r, mem),
-        Action::Bclr => clear_bits(o, r, mem),
-        Action::Brset => branch(all_set(byte_operand(o, r, mem), mask_of(o)), o, r),
-        Action::Brclr => branch(none_set(byte_operand(o, r, mem), mask_of(o)), o, r),
-        Action::Branch(k) => branch(holds(k, r.flags), o, r),
-        Action::Jmp => r.with_pc(operand_address(o, r)),
-        Action::Call => call(o, r, mem),
-        Action::Rts => return_from(r, mem),
-        Action::PushByte(c) => push_byte(c, r, mem),
-        Action::PushWord(i) => push_word(i, r, mem),
-        Action::PullByte(c) => pull_byte(c, r, mem),
-        Action::PullWord(i) => pull_word(i, r, mem),
-        Action::Des => r.with_sp(down(r.sp, 1)),
-        Action::Ins => r.with_sp(up(r.sp, 1)),
-        Action::SetStack(i) => r.with_sp(down(index(i, d), 1)),
-        Action::Swi => interrupt(r, mem),
-        Action::Rti => resume(r, mem),
-        Action::Wai => r,
-        Action::Stop => r,
-        Action::Test => r,
+        let at = address(k, from, r, mem);
+        if n < 97 {
+            on_operand(n, at, r, mem)
+        } else {
+            on_address(n, at, from, r, mem)
+        }
     }
 }

@@ -1,12 +1,13 @@
 // The instructions on the registers alone.
 ghost use mathlib.Core.Path.{_≡_};
-ghost use Rattle.instructions.specs.Inherent.{toA, toB, toD, toXD, counted, withV, withCarry, withI, replaced, moved, inherentOf};
+ghost use Rattle.registers.specs.Registers.{dataOf, withData, withA, withD, withX};
+ghost use Rattle.instructions.specs.Inherent.{withI, replaced, inherentOf};
 use arithmetic::byte::ByteResult;
 use arithmetic::byte::add8;
 use arithmetic::byte::logic8;
 use arithmetic::byte::sub8;
 use arithmetic::codes::with_c;
-use arithmetic::codes::with_nzvc;
+use arithmetic::codes::with_v;
 use arithmetic::codes::with_z;
 use arithmetic::decimal::daa;
 use arithmetic::divide::Divided;
@@ -17,59 +18,28 @@ use arithmetic::word::asld;
 use arithmetic::word::lsrd;
 use arithmetic::word::mul;
 use opcodes::instruction::Inherent;
-use registers::Data;
+use registers::Registers;
 use registers::flags::Flags;
 use registers::word::down;
 use registers::word::up;
 
-pub fn to_a(d: Data, w: ByteResult) -> Data
-    ensures { λ r. ⌜ r ≡ toA d w ⌝ }
+fn to_a(r: Registers, w: ByteResult) -> Registers
+    ensures { λ q. ⌜ q ≡ withData r (withA (dataOf r) (w .value) (w .flags)) ⌝ }
 {
-    let f = w.flags;
-    d.with_a(w.value, f.to_byte())
+    r.with_a(w.value, w.flags)
 }
 
-pub fn to_b(d: Data, w: ByteResult) -> Data
-    ensures { λ r. ⌜ r ≡ toB d w ⌝ }
+fn to_d(r: Registers, w: WordResult) -> Registers
+    ensures { λ q. ⌜ q ≡ withData r (withD (dataOf r) (w .value) (w .flags)) ⌝ }
 {
-    let f = w.flags;
-    d.with_b(w.value, f.to_byte())
-}
-
-pub fn to_d(d: Data, w: WordResult) -> Data
-    ensures { λ r. ⌜ r ≡ toD d w ⌝ }
-{
-    let f = w.flags;
-    d.with_d(w.value, f.to_byte())
+    r.with_d(w.value, w.flags)
 }
 
 // The quotient goes to X, the remainder to D.
-fn to_xd(d: Data, w: Divided) -> Data
-    ensures { λ r. ⌜ r ≡ toXD d w ⌝ }
+fn to_xd(r: Registers, w: Divided) -> Registers
+    ensures { λ q. ⌜ q ≡ withData r (withX (withD (dataOf r) (w .remainder) (w .flags)) (w .quotient) (w .flags)) ⌝ }
 {
-    let g = w.flags;
-    let f = g.to_byte();
-    d.with_d(w.remainder, f).with_x(w.quotient, f)
-}
-
-// The flags with Z of a counted index register.
-fn counted(v: u16, f: u8) -> u8
-    ensures { λ r. ⌜ r ≡ counted v f ⌝ }
-{
-    with_z(Flags::from_byte(f), v == 0).to_byte()
-}
-
-fn with_v(f: u8, v: bool) -> u8
-    ensures { λ r. ⌜ r ≡ withV f v ⌝ }
-{
-    let g = Flags::from_byte(f);
-    with_nzvc(g, g.n, g.z, v, g.c).to_byte()
-}
-
-fn with_carry(f: u8, c: bool) -> u8
-    ensures { λ r. ⌜ r ≡ withCarry f c ⌝ }
-{
-    with_c(Flags::from_byte(f), c).to_byte()
+    r.with_d(w.remainder, w.flags).with_x(w.quotient, w.flags)
 }
 
 pub fn with_i(f: u8, i: bool) -> u8
@@ -106,55 +76,47 @@ pub fn replaced(new: u8, f: u8) -> u8
     }.to_byte()
 }
 
-// The flags after a byte is loaded, stored, or moved from one accumulator to the other.
-pub fn moved(v: u8, f: u8) -> u8
-    ensures { λ r. ⌜ r ≡ moved v f ⌝ }
+fn compared(r: Registers) -> Registers
+    ensures { λ q. ⌜ q ≡ withData r (inherentOf Inherent.Cba (r .sp) (dataOf r)) ⌝ }
 {
-    logic8(v, Flags::from_byte(f)).to_byte()
+    let w = sub8(r.a, r.b, false, r.flags);
+    r.with_flags(w.flags)
 }
 
-fn compared(d: Data) -> Data
-    ensures { λ r. ⌜ r ≡ inherentOf Inherent.Cba 0 d ⌝ }
+pub fn inherent(i: Inherent, r: Registers) -> Registers
+    ensures { λ q. ⌜ q ≡ withData r (inherentOf i (r .sp) (dataOf r)) ⌝ }
 {
-    let w = sub8(d.a, d.b, false, Flags::from_byte(d.flags));
-    let f = w.flags;
-    d.with_flags(f.to_byte())
-}
-
-pub fn inherent(i: Inherent, sp: u16, d: Data) -> Data
-    ensures { λ r. ⌜ r ≡ inherentOf i sp d ⌝ }
-{
-    let f = d.flags;
+    let f = r.flags;
     match i {
-        Inherent::Nop => d,
-        Inherent::Idiv => to_xd(d, idiv(d.d(), d.x, Flags::from_byte(f))),
-        Inherent::Fdiv => to_xd(d, fdiv(d.d(), d.x, Flags::from_byte(f))),
-        Inherent::Lsrd => to_d(d, lsrd(d.d(), Flags::from_byte(f))),
-        Inherent::Asld => to_d(d, asld(d.d(), Flags::from_byte(f))),
-        Inherent::Tap => d.with_flags(replaced(d.a, f)),
-        Inherent::Tpa => d.with_a(f, f),
-        Inherent::Inx => d.with_x(up(d.x, 1), counted(up(d.x, 1), f)),
-        Inherent::Dex => d.with_x(down(d.x, 1), counted(down(d.x, 1), f)),
-        Inherent::Iny => d.with_y(up(d.y, 1), counted(up(d.y, 1), f)),
-        Inherent::Dey => d.with_y(down(d.y, 1), counted(down(d.y, 1), f)),
-        Inherent::Clv => d.with_flags(with_v(f, false)),
-        Inherent::Sev => d.with_flags(with_v(f, true)),
-        Inherent::Clc => d.with_flags(with_carry(f, false)),
-        Inherent::Sec => d.with_flags(with_carry(f, true)),
-        Inherent::Cli => d.with_flags(with_i(f, false)),
-        Inherent::Sei => d.with_flags(with_i(f, true)),
-        Inherent::Sba => to_a(d, sub8(d.a, d.b, false, Flags::from_byte(f))),
-        Inherent::Cba => compared(d),
-        Inherent::Tab => d.with_b(d.a, moved(d.a, f)),
-        Inherent::Tba => d.with_a(d.b, moved(d.b, f)),
-        Inherent::Daa => to_a(d, daa(d.a, Flags::from_byte(f))),
-        Inherent::Aba => to_a(d, add8(d.a, d.b, false, Flags::from_byte(f))),
-        Inherent::Tsx => d.with_x(up(sp, 1), f),
-        Inherent::Tsy => d.with_y(up(sp, 1), f),
-        Inherent::Abx => d.with_x(up(d.x, d.b as u16), f),
-        Inherent::Aby => d.with_y(up(d.y, d.b as u16), f),
-        Inherent::Mul => to_d(d, mul(d.a, d.b, Flags::from_byte(f))),
-        Inherent::Xgdx => d.with_d(d.x, f).with_x(d.d(), f),
-        Inherent::Xgdy => d.with_d(d.y, f).with_y(d.d(), f),
+        Inherent::Nop => r,
+        Inherent::Idiv => to_xd(r, idiv(r.d(), r.x, f)),
+        Inherent::Fdiv => to_xd(r, fdiv(r.d(), r.x, f)),
+        Inherent::Lsrd => to_d(r, lsrd(r.d(), f)),
+        Inherent::Asld => to_d(r, asld(r.d(), f)),
+        Inherent::Tap => r.with_flags(replaced(r.a, f)),
+        Inherent::Tpa => r.with_a(f, f),
+        Inherent::Inx => r.with_x(up(r.x, 1), with_z(f, up(r.x, 1) == 0)),
+        Inherent::Dex => r.with_x(down(r.x, 1), with_z(f, down(r.x, 1) == 0)),
+        Inherent::Iny => r.with_y(up(r.y, 1), with_z(f, up(r.y, 1) == 0)),
+        Inherent::Dey => r.with_y(down(r.y, 1), with_z(f, down(r.y, 1) == 0)),
+        Inherent::Clv => r.with_flags(with_v(f, false)),
+        Inherent::Sev => r.with_flags(with_v(f, true)),
+        Inherent::Clc => r.with_flags(with_c(f, false)),
+        Inherent::Sec => r.with_flags(with_c(f, true)),
+        Inherent::Cli => r.with_flags(with_i(f, false)),
+        Inherent::Sei => r.with_flags(with_i(f, true)),
+        Inherent::Sba => to_a(r, sub8(r.a, r.b, false, f)),
+        Inherent::Cba => compared(r),
+        Inherent::Tab => r.with_b(r.a, logic8(r.a, f)),
+        Inherent::Tba => r.with_a(r.b, logic8(r.b, f)),
+        Inherent::Daa => to_a(r, daa(r.a, f)),
+        Inherent::Aba => to_a(r, add8(r.a, r.b, false, f)),
+        Inherent::Tsx => r.with_x(up(r.sp, 1), f),
+        Inherent::Tsy => r.with_y(up(r.sp, 1), f),
+        Inherent::Abx => r.with_x(up(r.x, r.b as u16), f),
+        Inherent::Aby => r.with_y(up(r.y, r.b as u16), f),
+        Inherent::Mul => to_d(r, mul(r.a, r.b, f)),
+        Inherent::Xgdx => r.with_d(r.x, f).with_x(r.d(), f),
+        Inherent::Xgdy => r.with_d(r.y, f).with_y(r.d(), f),
     }
 }

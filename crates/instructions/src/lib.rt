@@ -1,7 +1,10 @@
 // An inner crate: what one decoded instruction reads, computes and writes.
-mod operand; // the address that an operand names, and what is read there
+mod operand; // where an operand stands
+mod compute; // registers by name
 mod inherent; // the instructions on the registers alone
-mod compute; // what the instructions make of values
+mod values; // the instructions that leave memory alone
 mod interrupt; // SWI and RTI
-mod store; // the instructions that write to memory
-pub mod execute; // one instruction
+mod stack; // pushes, pulls and RTS
+mod store; // stores and read-modify-writes
+mod jump; // branches, jumps and calls
+pub mod execute; // one instruction, by its number

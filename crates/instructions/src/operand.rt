@@ -1,12 +1,13 @@
-// The address that an operand names, and what is read there.
+// Where an operand stands, and what a bit instruction has besides.
 ghost use mathlib.Core.Path.{_≡_};
 ghost use lib.ListN.{length};
-ghost use Rattle.opcodes.specs.Form.{targetOf, targetIn};
-ghost use Rattle.instructions.specs.Operand.{addressOf, operandAddress, byteOperand, wordOperand, maskOf};
+ghost use Rattle.registers.specs.Word.{plus};
+ghost use Rattle.memory.specs.Memory.{byteAt};
+ghost use Rattle.opcodes.specs.Numbers.{modeOf};
+ghost use Rattle.opcodes.specs.Form.{targetOf};
+ghost use Rattle.instructions.specs.Sited.{addressAt};
 use memory::byte_at;
 use memory::word_at;
-use opcodes::instruction::Address;
-use opcodes::instruction::Operand;
 use registers::Registers;
 use registers::word::up;
 
@@ -21,70 +22,50 @@ pub fn target(next: u16, d: u8) -> u16
     }
 }
 
-// Where a branch instruction goes when it is taken; PC stands past it.
-pub fn branch_target(o: Operand, next: u16) -> u16
-    ensures { λ q. ⌜ q ≡ targetIn o next ⌝ }
-{
-    match o {
-        Operand::Relative(d) => target(next, d),
-        Operand::MaskBranch(_, _, d) => target(next, d),
-        _ => next,
-    }
-}
-
-pub fn address_of(a: Address, r: Registers) -> u16
-    ensures { λ q. ⌜ q ≡ addressOf a r ⌝ }
-{
-    match a {
-        Address::Fixed(at) => at,
-        Address::IndexedX(d) => up(r.x, d as u16),
-        Address::IndexedY(d) => up(r.y, d as u16),
-    }
-}
-
-pub fn operand_address(o: Operand, r: Registers) -> u16
-    ensures { λ q. ⌜ q ≡ operandAddress o r ⌝ }
-{
-    match o {
-        Operand::Inherent => 0,
-        Operand::Immediate(_) => 0,
-        Operand::Direct(d) => d as u16,
-        Operand::Extended(a) => a,
-        Operand::IndexedX(d) => up(r.x, d as u16),
-        Operand::IndexedY(d) => up(r.y, d as u16),
-        Operand::Relative(d) => target(r.pc, d),
-        Operand::Mask(a, _) => address_of(a, r),
-        Operand::MaskBranch(a, _, _) => address_of(a, r),
-    }
-}
-
-pub fn byte_operand(o: Operand, r: Registers, mem: &[u8]) -> u8
+// Past an index register by the unsigned offset that stands at `from`.
+fn indexed(index: u16, from: u16, mem: &[u8]) -> u16
     requires { ⌜ length (now mem) ≡ 65536 ⌝ }
-    ensures { λ q. ⌜ q ≡ byteOperand o r (now (mem .entry)) ⌝ }
+    ensures { λ q. ⌜ q ≡ plus index (byteAt (now (mem .entry)) from) ⌝ }
 {
-    match o {
-        Operand::Immediate(v) => (v % 256) as u8,
-        _ => byte_at(mem, operand_address(o, r)),
-    }
+    up(index, byte_at(mem, from) as u16)
 }
 
-pub fn word_operand(o: Operand, r: Registers, mem: &[u8]) -> u16
+// The address of an operand of mode k, whose bytes start at `from`; PC stands past the instruction. An immediate operand stands there itself.
+pub fn address(k: u8, from: u16, r: Registers, mem: &[u8]) -> u16
     requires { ⌜ length (now mem) ≡ 65536 ⌝ }
-    ensures { λ q. ⌜ q ≡ wordOperand o r (now (mem .entry)) ⌝ }
+    ensures { λ q. ⌜ q ≡ addressAt (modeOf k) from r (now (mem .entry)) ⌝ }
 {
-    match o {
-        Operand::Immediate(v) => v,
-        _ => word_at(mem, operand_address(o, r)),
+    match k {
+        0 => from,
+        1 => from,
+        2 => from,
+        3 => byte_at(mem, from) as u16,
+        4 => word_at(mem, from),
+        5 => indexed(r.x, from, mem),
+        6 => indexed(r.y, from, mem),
+        7 => target(r.pc, byte_at(mem, from)),
+        8 => byte_at(mem, from) as u16,
+        9 => indexed(r.x, from, mem),
+        10 => indexed(r.y, from, mem),
+        11 => byte_at(mem, from) as u16,
+        12 => indexed(r.x, from, mem),
+        13 => indexed(r.y, from, mem),
+        _ => from,
     }
 }
 
-// The mask of a bit instruction.
-pub fn mask_of(o: Operand) -> u8
-    ensures { λ q. ⌜ q ≡ maskOf o ⌝ }
+// The mask of a bit instruction stands after the operand's first byte.
+pub fn mask(from: u16, mem: &[u8]) -> u8
+    requires { ⌜ length (now mem) ≡ 65536 ⌝ }
+    ensures { λ q. ⌜ q ≡ byteAt (now (mem .entry)) (plus from 1) ⌝ }
 {
-    match o {
-        Operand::Mask(_, k) => k,
-        Operand::MaskBranch(_, k, _) => k,
-        _ => 0,
-    }
+    byte_at(mem, up(from, 1))
+}
+
+// The offset of BRSET and BRCLR stands after the mask.
+pub fn bit_target(from: u16, next: u16, mem: &[u8]) -> u16
+    requires { ⌜ length (now mem) ≡ 65536 ⌝ }
+    ensures { λ q. ⌜ q ≡ targetOf next (byteAt (now (mem .entry)) (plus from 2)) ⌝ }
+{
+    target(next, byte_at(mem, up(from, 2)))
 }

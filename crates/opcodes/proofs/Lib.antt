@@ -1,8 +1,10 @@
 pub mod Order
 pub mod Missed
 pub mod Every
+pub mod ByRow
 pub mod Rule
 pub mod Size
+pub mod Fits
 pub mod Index
 pub mod Truth
 pub mod Lent

@@ -4,6 +4,7 @@ use mathlib.Core.Path.{_≡_, refl}
 use mathlib.Core.Bool.{Bool, true}
 use mathlib.Core.Logic.{_⊎_, inl, inr, ⊎-elim}
 use Prim.Native.Nat.{ℕ, zero, suc, _≤_, _<_, _/_, _%_}
+use native.Mathlib.Omega.{arith}
 use lib.Dec.{T, leb, leb→le}
 use lib.ListN.{List·getD-eq-default}
 use Rattle.opcodes.specs.Tables.{costs, costAt}
@@ -47,6 +48,13 @@ past n p = List·getD-eq-default costs 0 p
 
 pub ruled-at-all : (n : ℕ) → Ruled (costAt n)
 ruled-at-all n = ⊎-elim (λ p. inl (past n p)) (λ q. ruled n q) (le-or-lt 1024 n)
+
+narrow : (e : ℕ) → Ruled e → e < 65536
+narrow e r = ⊎-elim (λ z. omega (arith, z)) (λ w. omega (arith, w .1)) r
+
+-- an entry is a word, and so fits in more
+pub entry-word : (n : ℕ) → costAt n < 65536
+entry-word n = narrow (costAt n) (ruled-at-all n)
 
 -- where an entry is not 0 there is a place
 pub below : (n : ℕ) → (costAt n ≡ 0 → ⊥) → n < 1024

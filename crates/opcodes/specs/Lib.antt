@@ -4,3 +4,4 @@ pub mod Numbers
 pub mod Conditions
 pub mod Decode
 pub mod Form
+pub mod Fits

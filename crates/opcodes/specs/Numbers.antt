@@ -14,6 +14,8 @@ use Rattle.opcodes.specs.declared.instruction.Word.the-variants as Wd
 use Rattle.opcodes.specs.declared.instruction.Mode.{Mode}
 use Rattle.opcodes.specs.declared.instruction.Mode.the-variants as Mode
 
+-- the code goes by groups of these numbers: 0 .. 29 are for the registers alone, 30 .. 66 for an accumulator or the stack;
+-- 67 .. 96 read an operand; 97 .. 134 store, branch or jump; 135 and 136 wait
 abbrev pub allActions : List Action
 allActions =
     (Inherent I.Nop) ∷ (Inherent I.Idiv) ∷ (Inherent I.Fdiv) ∷ (Inherent I.Lsrd) ∷ (Inherent I.Asld) ∷
@@ -28,7 +30,10 @@ allActions =
     (Unary Un.Neg Acc.B) ∷ (Unary Un.Com Acc.B) ∷ (Unary Un.Lsr Acc.B) ∷ (Unary Un.Ror Acc.B) ∷
     (Unary Un.Asr Acc.B) ∷ (Unary Un.Asl Acc.B) ∷ (Unary Un.Rol Acc.B) ∷ (Unary Un.Dec Acc.B) ∷
     (Unary Un.Inc Acc.B) ∷ (Unary Un.Clr Acc.B) ∷
-    (TstAccumulator Acc.A) ∷ (TstAccumulator Acc.B) ∷
+    (TstAccumulator Acc.A) ∷ (TstAccumulator Acc.B) ∷ Rts ∷
+    (PushByte Acc.A) ∷ (PushByte Acc.B) ∷ (PushWord Ix.X) ∷ (PushWord Ix.Y) ∷
+    (PullByte Acc.A) ∷ (PullByte Acc.B) ∷ (PullWord Ix.X) ∷ (PullWord Ix.Y) ∷
+    Des ∷ Ins ∷ (SetStack Ix.X) ∷ (SetStack Ix.Y) ∷ Swi ∷ Rti ∷
     (Binary Bi.Sub Acc.A) ∷ (Binary Bi.Cmp Acc.A) ∷ (Binary Bi.Sbc Acc.A) ∷ (Binary Bi.And Acc.A) ∷
     (Binary Bi.Bit Acc.A) ∷ (Binary Bi.Lda Acc.A) ∷ (Binary Bi.Eor Acc.A) ∷ (Binary Bi.Adc Acc.A) ∷
     (Binary Bi.Ora Acc.A) ∷ (Binary Bi.Add Acc.A) ∷
@@ -46,15 +51,13 @@ allActions =
     Bset ∷ Bclr ∷ Brset ∷ Brclr ∷
     (Branch 0) ∷ (Branch 1) ∷ (Branch 2) ∷ (Branch 3) ∷ (Branch 4) ∷ (Branch 5) ∷ (Branch 6) ∷ (Branch 7) ∷
     (Branch 8) ∷ (Branch 9) ∷ (Branch 10) ∷ (Branch 11) ∷ (Branch 12) ∷ (Branch 13) ∷ (Branch 14) ∷ (Branch 15) ∷
-    Jmp ∷ Call ∷ Rts ∷
-    (PushByte Acc.A) ∷ (PushByte Acc.B) ∷ (PushWord Ix.X) ∷ (PushWord Ix.Y) ∷
-    (PullByte Acc.A) ∷ (PullByte Acc.B) ∷ (PullWord Ix.X) ∷ (PullWord Ix.Y) ∷
-    Des ∷ Ins ∷ (SetStack Ix.X) ∷ (SetStack Ix.Y) ∷
-    Swi ∷ Rti ∷ Wai ∷ Stop ∷ Test ∷
+    Jmp ∷ Call ∷
+    Wai ∷ Stop ∷
     []
 
+-- a number past the list is TEST, which the step refuses: never a NOP, which it would run
 abbrev pub actionOf : ℕ → Action
-actionOf n = getD allActions n (Inherent I.Nop)
+actionOf n = getD allActions n Test
 
 abbrev pub allModes : List Mode
 allModes =

@@ -13,9 +13,10 @@ use crate::instruction::Operand;
 use crate::table::action_of;
 use crate::table::mode_of;
 
-// The place of an instruction in the maps, how many bytes its opcode has, and its entry in the table of costs.
+// The place of an instruction in the maps, how many bytes its opcode has, and its entry in the table of costs: an index and a count of cycles
+// as the loop that runs instructions has them.
 pub enum Found {
-    At(u16, u16, u16),
+    At(usize, u16, u32),
     Nothing,
 }
 
@@ -37,39 +38,53 @@ pub fn found_of(first: u8, second: u8, tc: &[u16; 1024]) -> Found
     ensures { λ r. ⌜ r ≡ foundOf first second ⌝ }
 {
     let i = first as usize;
-    let e = tc[i];
+    let e = tc[i] as u32;
     if e != 0 {
-        return Found::At(first as u16, 1, e);
+        return Found::At(i, 1, e);
     }
     let page = page_of(first);
     if page == 0 {
         return Found::Nothing;
     }
-    let place = page + (second as u16);
-    let j = place as usize;
-    let k = tc[j];
+    let j = (page + (second as u16)) as usize;
+    let k = tc[j] as u32;
     if k == 0 {
         return Found::Nothing;
     }
-    Found::At(place, 2, k)
+    Found::At(j, 2, k)
 }
 
-pub fn action_at(place: u16, ta: &[u8; 1024]) -> Action
+// The number of the action of a place, for the code that goes by numbers.
+pub fn number_at(place: usize, ta: &[u8; 1024]) -> u8
+    requires { ⌜ place < 1024 ⌝ }
+    requires { ⌜ map actionOf (now ta) ≡ actions ⌝ }
+    ensures { λ r. ⌜ actionOf r ≡ actionAt place ⌝ }
+{
+    ta[place]
+}
+
+pub fn action_at(place: usize, ta: &[u8; 1024]) -> Action
     requires { ⌜ place < 1024 ⌝ }
     requires { ⌜ map actionOf (now ta) ≡ actions ⌝ }
     ensures { λ r. ⌜ r ≡ actionAt place ⌝ }
 {
-    let i = place as usize;
-    action_of(ta[i])
+    action_of(number_at(place, ta))
 }
 
-pub fn mode_at(place: u16, tm: &[u8; 1024]) -> Mode
+pub fn mode_number_at(place: usize, tm: &[u8; 1024]) -> u8
+    requires { ⌜ place < 1024 ⌝ }
+    requires { ⌜ map modeOf (now tm) ≡ modes ⌝ }
+    ensures { λ r. ⌜ modeOf r ≡ modeAt place ⌝ }
+{
+    tm[place]
+}
+
+pub fn mode_at(place: usize, tm: &[u8; 1024]) -> Mode
     requires { ⌜ place < 1024 ⌝ }
     requires { ⌜ map modeOf (now tm) ≡ modes ⌝ }
     ensures { λ r. ⌜ r ≡ modeAt place ⌝ }
 {
-    let i = place as usize;
-    mode_of(tm[i])
+    mode_of(mode_number_at(place, tm))
 }
 
 fn word_of(high: u8, low: u8) -> u16
@@ -101,7 +116,7 @@ pub fn operand_of(mode: Mode, u: u8, v: u8, w: u8) -> Operand
 }
 
 // The instruction of a place, whose operand's bytes are u, v and w.
-pub fn decode(place: u16, u: u8, v: u8, w: u8, ta: &[u8; 1024], tm: &[u8; 1024]) -> Decoded
+pub fn decode(place: usize, u: u8, v: u8, w: u8, ta: &[u8; 1024], tm: &[u8; 1024]) -> Decoded
     requires { ⌜ place < 1024 ⌝ }
     requires { ⌜ map actionOf (now ta) ≡ actions ⌝ }
     requires { ⌜ map modeOf (now tm) ≡ modes ⌝ }

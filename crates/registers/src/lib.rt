@@ -30,87 +30,6 @@ pub struct Cycles(pub u32);
 
 pub struct StackBytes(pub u16);
 
-impl Data {
-    // D is A:B.
-    pub fn d(self) -> u16
-        ensures { λ r. ⌜ r ≡ accumulatorD self ⌝ }
-    {
-        (self.a as u16) * 256 + (self.b as u16)
-    }
-
-    pub fn with_a(self, v: u8, flags: u8) -> Data
-        ensures { λ r. ⌜ r ≡ withA self v flags ⌝ }
-    {
-        Data {
-            x: self.x,
-            y: self.y,
-            a: v,
-            b: self.b,
-            flags: flags,
-        }
-    }
-
-    pub fn with_b(self, v: u8, flags: u8) -> Data
-        ensures { λ r. ⌜ r ≡ withB self v flags ⌝ }
-    {
-        Data {
-            x: self.x,
-            y: self.y,
-            a: self.a,
-            b: v,
-            flags: flags,
-        }
-    }
-
-    pub fn with_d(self, v: u16, flags: u8) -> Data
-        ensures { λ r. ⌜ r ≡ withD self v flags ⌝ }
-    {
-        Data {
-            x: self.x,
-            y: self.y,
-            a: (v / 256) as u8,
-            b: (v % 256) as u8,
-            flags: flags,
-        }
-    }
-
-    pub fn with_x(self, v: u16, flags: u8) -> Data
-        ensures { λ r. ⌜ r ≡ withX self v flags ⌝ }
-    {
-        Data {
-            x: v,
-            y: self.y,
-            a: self.a,
-            b: self.b,
-            flags: flags,
-        }
-    }
-
-    pub fn with_y(self, v: u16, flags: u8) -> Data
-        ensures { λ r. ⌜ r ≡ withY self v flags ⌝ }
-    {
-        Data {
-            x: self.x,
-            y: v,
-            a: self.a,
-            b: self.b,
-            flags: flags,
-        }
-    }
-
-    pub fn with_flags(self, flags: u8) -> Data
-        ensures { λ r. ⌜ r ≡ withFlags self flags ⌝ }
-    {
-        Data {
-            x: self.x,
-            y: self.y,
-            a: self.a,
-            b: self.b,
-            flags: flags,
-        }
-    }
-}
-
 impl Registers {
     // Document 01's reset value.
     pub const RESET: Registers = Registers {
@@ -145,29 +64,94 @@ impl Registers {
         }
     }
 
-    pub fn data(self) -> Data
-        ensures { λ r. ⌜ r ≡ dataOf self ⌝ }
+    // D is A:B.
+    pub fn d(self) -> u16
+        ensures { λ r. ⌜ r ≡ accumulatorD (dataOf self) ⌝ }
     {
-        Data {
+        (self.a as u16) * 256 + (self.b as u16)
+    }
+
+    pub fn with_a(self, v: u8, flags: u8) -> Registers
+        ensures { λ r. ⌜ r ≡ withData self (withA (dataOf self) v flags) ⌝ }
+    {
+        Registers {
             x: self.x,
             y: self.y,
-            a: self.a,
+            sp: self.sp,
+            pc: self.pc,
+            a: v,
             b: self.b,
-            flags: self.flags,
+            flags: flags,
         }
     }
 
-    pub fn with_data(self, d: Data) -> Registers
-        ensures { λ r. ⌜ r ≡ withData self d ⌝ }
+    pub fn with_b(self, v: u8, flags: u8) -> Registers
+        ensures { λ r. ⌜ r ≡ withData self (withB (dataOf self) v flags) ⌝ }
     {
         Registers {
-            x: d.x,
-            y: d.y,
+            x: self.x,
+            y: self.y,
             sp: self.sp,
             pc: self.pc,
-            a: d.a,
-            b: d.b,
-            flags: d.flags,
+            a: self.a,
+            b: v,
+            flags: flags,
+        }
+    }
+
+    pub fn with_d(self, v: u16, flags: u8) -> Registers
+        ensures { λ r. ⌜ r ≡ withData self (withD (dataOf self) v flags) ⌝ }
+    {
+        Registers {
+            x: self.x,
+            y: self.y,
+            sp: self.sp,
+            pc: self.pc,
+            a: (v / 256) as u8,
+            b: (v % 256) as u8,
+            flags: flags,
+        }
+    }
+
+    pub fn with_x(self, v: u16, flags: u8) -> Registers
+        ensures { λ r. ⌜ r ≡ withData self (withX (dataOf self) v flags) ⌝ }
+    {
+        Registers {
+            x: v,
+            y: self.y,
+            sp: self.sp,
+            pc: self.pc,
+            a: self.a,
+            b: self.b,
+            flags: flags,
+        }
+    }
+
+    pub fn with_y(self, v: u16, flags: u8) -> Registers
+        ensures { λ r. ⌜ r ≡ withData self (withY (dataOf self) v flags) ⌝ }
+    {
+        Registers {
+            x: self.x,
+            y: v,
+            sp: self.sp,
+            pc: self.pc,
+            a: self.a,
+            b: self.b,
+            flags: flags,
+        }
+    }
+
+    pub fn with_flags(self, flags: u8) -> Registers
+        ensures { λ r. ⌜ r ≡ withData self (withFlags (dataOf self) flags) ⌝ }
+    {
+        Registers {
+            x: self.x,
+            y: self.y,
+            sp: self.sp,
+            pc: self.pc,
+            a: self.a,
+            b: self.b,
+            flags: flags,
         }
     }
 

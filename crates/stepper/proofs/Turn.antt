@@ -1,6 +1,6 @@
 -- One turn of the loop, by what the next instruction comes to.
 -- Assumes nothing.
-use mathlib.Core.Path.{_≡_}
+use mathlib.Core.Path.{_≡_, sym, ap}
 use mathlib.Core.List.{List}
 use Prim.Native.Nat.{ℕ, suc, _+_, _≤_, _<_}
 use lib.ListN.{length}
@@ -9,7 +9,7 @@ use Rattle.registers.specs.declared.Cycles.{Cycles}
 use Rattle.registers.specs.declared.Registers.{Registers}
 use Rattle.stepper.specs.Answer.{done, refused, home, spent, refused as runRefused}
 use Rattle.stepper.specs.Step.{stepOf}
-use Rattle.stepper.specs.Run.{runFrom, runOf}
+use Rattle.stepper.specs.Run.{AfterRun, runFrom, runOf}
 use Rattle.stepper.specs.Advance.{goFrom, goOf, stepped}
 
 module _ (n b s : ℕ) (r : Registers) (m : List ℕ) where
@@ -38,3 +38,7 @@ module _ (n b s : ℕ) (r : Registers) (m : List ℕ) where
 pub begins : (r : Registers) (m : List ℕ) (b : ℕ) → length m ≡ 65536 → (r .pc ≡ 0 → ⊥) → runOf r m b ≡ goOf r m b
 unfolding runOf
 begins r m b h n = simp (eq-eqb _ _ h, away b b 0 r m n)
+
+-- an equation of what a run leaves, as a contract has it
+pub told : {x y : AfterRun} → x ≡ y → (y .answer ≡ x .answer) × (y .memory ≡ x .memory)
+told e = (sym (ap (λ (w : AfterRun). w .answer) e), sym (ap (λ (w : AfterRun). w .memory) e))

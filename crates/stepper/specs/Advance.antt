@@ -1,35 +1,27 @@
--- The next instruction where at most `left` cycles may go, and the run from there: what the loop that a step and a run share comes to.
+-- The next instruction, wherever it stands, and the run from there: what the loop that a step and a run share comes to.
 -- Assumes nothing.
-use Prim.Native.Nat.{ℕ, _≤_, _<_}
+use Prim.Native.Nat.{ℕ}
 use mathlib.Core.Path.{_≡_}
 use mathlib.Core.Bool.{Bool, true, false}
 use mathlib.Core.List.{List}
 use lib.Dec.{eqb}
-use Rattle.registers.specs.declared.Cycles.{Cycles}
 use Rattle.registers.specs.declared.Registers.{Registers}
 use Rattle.opcodes.specs.Form.{formOf, waits}
 use Rattle.opcodes.specs.declared.instruction.Action.{Action}
 use Rattle.opcodes.specs.declared.instruction.Operand.{Operand}
-use Rattle.stepper.specs.declared.advance.Advanced.{Advanced}
-use Rattle.stepper.specs.declared.advance.Advanced.the-variants.{Done, Refused, Over}
-use Rattle.stepper.specs.Answer.{Answer, done, refused, RunAnswer, home, spent, refused as runRefused, numberOf, placeOf}
-use Rattle.stepper.specs.Step.{After, stepOf}
+use Rattle.stepper.specs.Answer.{Answer, done, refused, RunAnswer, home, spent, refused as runRefused}
+use Rattle.stepper.specs.Step.{After}
 use Rattle.stepper.specs.Run.{AfterRun, turn, runFrom}
 
 -- whether an action waits, whatever its operand
 abbrev pub Waiting : Action → Bool → Type 0
 Waiting a b = (o : Operand) (next : ℕ) → waits (formOf a o next) ≡ b
 
+-- a step that is done
 abbrev pub stepped : Registers → ℕ → List ℕ → After
 stepped q k m = record { answer = done q (record { 0 = k }); memory = m }
 
--- a step that is done is covered, and one that is not done is not; a refused step and one that is not done leave memory as it was
-abbrev pub Advances : ℕ → Registers → List ℕ → Advanced → List ℕ → Type 0
-Advances left r m (Done q k) m′ = (stepOf r m ≡ stepped q k m′) × (k ≤ left)
-Advances left r m (Refused x) m′ = stepOf r m ≡ record { answer = refused (numberOf x) (placeOf x); memory = m′ }
-Advances left r m Over m′ = (m′ ≡ m) × ((q : Registers) × (k : Cycles) × (stepOf r m .answer ≡ done q k) × (left < k .0))
-
--- the next instruction, wherever it stands, and then the run
+-- the next instruction, also at home, and then the run
 unfoldable pub goFrom : ℕ → ℕ → ℕ → Registers → List ℕ → AfterRun
 goFrom n b s r m = turn false b s r m (λ t q m′. runFrom n b t q m′)
 

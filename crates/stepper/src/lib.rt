@@ -11,14 +11,12 @@ use crate::answer::Ran;
 use crate::answer::Refusal;
 use crate::answer::Stepped;
 use opcodes::decode::Found;
-use opcodes::table::actions;
 use opcodes::table::costs;
-use opcodes::table::modes;
 use registers::Cycles;
 use registers::Registers;
 
 pub mod answer; // what a step and a run answer
-mod advance; // the next instruction, and the loop over it
+mod advance; // the loop over the instructions
 
 // What the loop answers with the next instruction's own cycles as its budget: no second instruction is begun. Where no cycle is spent the
 // instruction itself is refused.
@@ -49,11 +47,7 @@ pub fn step(r: Registers, mem: &mut [u8]) -> Stepped
     let pc = r.pc;
     match find(mem, pc, &tc) {
         Found::Nothing => Stepped::Refused(Refusal::NoInstruction(pc)),
-        Found::At(_, _, e) => {
-            let ta = actions();
-            let tm = modes();
-            stepped(go(r, mem, (e % 256) as u32, &tc, &ta, &tm))
-        }
+        Found::At(_, _, e) => stepped(go(r, mem, e % 256)),
     }
 }
 
@@ -67,8 +61,5 @@ pub fn run(r: Registers, mem: &mut [u8], budget: u32) -> Ran
     if r.pc == 0 {
         return Ran::Home(r, Cycles(0));
     }
-    let tc = costs();
-    let ta = actions();
-    let tm = modes();
-    go(r, mem, budget, &tc, &ta, &tm)
+    go(r, mem, budget)
 }

@@ -8,7 +8,7 @@ at-sub : tie.Need-returns
 at-sub c = simp (c .sub8 .ensures, c .before .enum-told .given .1)
 
 at-cmp : tie.Need-returns-2
-at-cmp c = simp (c .before .sub82 .ensures, c .before .before .enum-told2 .given .1)
+at-cmp c = simp (c .sub82 .ensures, c .before .enum-told2 .given .1)
 
 at-sbc : tie.Need-returns-3
 at-sbc c = simp (c .sub83 .ensures, c .before .enum-told3 .given .1)

@@ -1,4 +1,4 @@
--- `accumulator` meets its contract: each arm is `accumulatorOf` at that case.
+-- `accumulator` meets its contract: a case for each register.
 -- Assumes nothing.
 use borrow.Author.Needs.{needs}
 use Rattle.instructions.specs.Outcome.{accumulatorOf}
@@ -9,8 +9,6 @@ pub accumulator-spec : {M : Type 1} → statement M
 unfolding accumulatorOf
 accumulator-spec =
     tie.close
-    (tie.spec
-    (search needs)  -- A
-    (search needs)  -- B
-    (λ c. simp (c .enum-told .given .1))  -- A
-    (λ c. simp (c .enum-told2 .given .1)))  -- B
+    (tie.spec (search needs) (search needs)
+    (λ c. simp (c .enum-told .given .1))
+    (λ c. simp (c .enum-told2 .given .1)))

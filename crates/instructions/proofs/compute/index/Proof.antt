@@ -1,4 +1,4 @@
--- `index` meets its contract: each arm is `indexOf` at that case.
+-- `index` meets its contract: a case for each register.
 -- Assumes nothing.
 use borrow.Author.Needs.{needs}
 use Rattle.instructions.specs.Outcome.{indexOf}
@@ -9,8 +9,6 @@ pub index-spec : {M : Type 1} → statement M
 unfolding indexOf
 index-spec =
     tie.close
-    (tie.spec
-    (search needs)  -- X
-    (search needs)  -- Y
-    (λ c. simp (c .enum-told .given .1))  -- X
-    (λ c. simp (c .enum-told2 .given .1)))  -- Y
+    (tie.spec (search needs) (search needs)
+    (λ c. simp (c .enum-told .given .1))
+    (λ c. simp (c .enum-told2 .given .1)))

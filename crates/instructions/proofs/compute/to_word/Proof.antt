@@ -1,4 +1,4 @@
--- `to_word` meets its contract: each arm is `toWord` at that case.
+-- `to_word` meets its contract: a case for each register.
 -- Assumes nothing.
 use borrow.Author.Needs.{needs}
 use Rattle.instructions.specs.Outcome.{toWord}
@@ -9,12 +9,8 @@ pub to-word-spec : {M : Type 1} → statement M
 unfolding toWord
 to-word-spec =
     tie.close
-    (tie.spec
-    (search needs) (search needs)  -- D
-    (search needs) (search needs)  -- X
-    (search needs) (search needs)  -- Y
-    (search needs) (search needs)  -- S
-    (λ c. simp (c .with-d .ensures, c .before .enum-told .given .1))  -- D
-    (λ c. simp (c .with-x .ensures, c .before .enum-told2 .given .1))  -- X
-    (λ c. simp (c .with-y .ensures, c .before .enum-told3 .given .1))  -- Y
-    (λ c. simp (c .with-flags .ensures, c .before .enum-told4 .given .1)))  -- S
+    (tie.spec (search needs) (search needs) (search needs) (search needs) (search needs) (search needs) (search needs) (search needs)
+    (λ c. simp (c .before .enum-told .given .1, c .with-d .ensures))
+    (λ c. simp (c .before .enum-told2 .given .1, c .with-x .ensures))
+    (λ c. simp (c .before .enum-told3 .given .1, c .with-y .ensures))
+    (λ c. simp (c .before .enum-told4 .given .1, c .with-flags .ensures)))

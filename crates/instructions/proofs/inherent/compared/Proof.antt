@@ -8,4 +8,6 @@ use Rattle.instructions.proofs.inherent.compared.Tie as tie
 pub compared-spec : {M : Type 1} → statement M
 unfolding inherentOf
 compared-spec =
-    tie.close (tie.spec (search needs) (search needs) (search needs) (search needs) (λ c. cc))
+    tie.close
+    (tie.spec (search needs) (search needs)
+    (λ c. simp (c .with-flags .ensures, c .before .sub8 .ensures)))

@@ -6,4 +6,6 @@ use Rattle.instructions.proofs.inherent.to_xd.Tie as tie
 
 pub to-xd-spec : {M : Type 1} → statement M
 to-xd-spec =
-    tie.close (tie.spec (search needs) (search needs) (search needs) (λ c. simp (c .with-x .ensures, c .before .with-d .ensures, c .before .before .to-byte .ensures)))
+    tie.close
+    (tie.spec (search needs) (search needs)
+    (λ c. simp (c .with-x .ensures, c .before .with-d .ensures)))

@@ -1,18 +1,19 @@
--- `set_bits` meets its contract: the byte that was made is `bsetOf` of what was read.
+-- `set_bits` meets its contract: the byte that was made is that of what was read.
 -- Assumes nothing.
 use borrow.Author.Needs.{needs}
-use mathlib.Core.Path.{_∙_}
-use Rattle.arithmetic.specs.Byte.{bsetOf}
-use Rattle.instructions.proofs.Effects.{opened, puts, executed-as}
+use mathlib.Core.Path.{sym, subst}
+use Prim.Native.Nat.{ℕ, _<_}
+use native.Mathlib.Omega.{arith}
+use Rattle.instructions.proofs.Effects.{opened}
 use Rattle.instructions.proofs.store.set_bits.Statement.{statement}
 use Rattle.instructions.proofs.store.set_bits.Tie as tie
 
 pub set-bits-spec : {M : Type 1} → statement M
 unfolding opened
 set-bits-spec =
-    tie.close (tie.spec (search needs) (search needs) (search needs) (search needs) (search needs) (search needs) (λ c.
-    let b = c .before .before .before .before in
-    let a = b .before .before .before .before .before .before .args in
-    executed-as (puts (a .o) (a .r) (a .mem .now)) (a .mem .now)
-    (b .bset .ensures ∙ (λ i. bsetOf (b .before .before .before .byte-operand .ensures i) (b .before .before .mask-of .ensures i) (b .before .from-byte .ensures i)))
-    (c .before .before .put-result .ensures)))
+    tie.close
+    (tie.spec (search needs) (search needs) (search needs) (search needs)
+    (λ c o s b k.
+    let e = c .before .before .before .before .before .byte-at .ensures in
+    let v = b (subst (λ (i : ℕ). i < 256) e (omega arith)) in
+    (simp (c .before .before .put-result .ensures .0, c .before .before .before .before .bset .ensures, c .before .before .before .before .before .byte-at .ensures, v, k), simp (c .before .before .put-result .ensures .1, c .before .before .before .before .bset .ensures, c .before .before .before .before .before .byte-at .ensures, s, v, k))))

@@ -9,10 +9,5 @@ pub store-byte-spec : {M : Type 1} → statement M
 unfolding opened
 store-byte-spec =
     tie.close
-    (tie.spec
-    (search needs)
-    (search needs)
-    (search needs)
-    (search needs) (search needs)
-    (search needs) (search needs)
-    (λ c. (simp (c .with-data .ensures, c .before .tested-byte .ensures, c .before .before .before .before .before .before .before .accumulator .ensures, c .before .before .before .before .before .before .before .before .«data» .ensures), cc)))
+    (tie.spec (search needs) (search needs) (search needs) (search needs) (search needs)
+    (λ c o s. (simp (c .with-flags .ensures, c .before .logic8 .ensures, c .before .before .before .before .before .before .accumulator .ensures), cc)))

@@ -9,10 +9,5 @@ pub store-word-spec : {M : Type 1} → statement M
 unfolding opened
 store-word-spec =
     tie.close
-    (tie.spec
-    (search needs)
-    (search needs)
-    (search needs)
-    (search needs) (search needs)
-    (search needs) (search needs)
-    (λ c. (simp (c .with-data .ensures, c .before .tested-word .ensures, c .before .before .before .before .before .before .before .word .ensures, c .before .before .before .before .before .before .before .before .«data» .ensures), cc)))
+    (tie.spec (search needs) (search needs) (search needs) (search needs) (search needs)
+    (λ c o s. (simp (c .with-flags .ensures, c .before .logic16 .ensures, c .before .before .before .before .before .before .word .ensures), cc)))

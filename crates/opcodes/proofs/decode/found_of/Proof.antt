@@ -3,6 +3,8 @@
 use borrow.Author.Needs.{needs}
 use mathlib.Core.Path.{sym, _∙_}
 use Prim.Native.Nat.{_+_}
+use native.Mathlib.Omega.{arith}
+use Rattle.opcodes.proofs.Rule.{entry-word}
 use Rattle.opcodes.proofs.Prefix.{plain, size-1, in-first, paged, entry, there, nowhere}
 use Rattle.opcodes.proofs.decode.found_of.Statement.{statement}
 use Rattle.opcodes.proofs.decode.found_of.Tie as tie
@@ -35,12 +37,26 @@ returns-4 c =
     let h = paged (a .first) (a .second) (g .result) (g .ensures .0) (c .before .before .if2 .left) in
     there (a .first) (a .second) (a .tc .now) (c .before .before .before .before .before .before .pre) (g .result + a .second) (h .0) 2 (h .1) (c .if3 .left)
 
+cast-e : tie.Need-cast-e
+cast-e c =
+    let a = c .before .args in
+    let w = entry-word (a .first) in
+    omega (arith, w, entry (a .tc .now) (c .before .pre) (a .first))
+
+cast-k : tie.Need-cast-k
+cast-k c =
+    let b = c .before .before .before .before .before in
+    let p = c .before .before .page-of .result + b .args .second in
+    let w = entry-word p in
+    omega (arith, w, entry (b .args .tc .now) (b .pre) p)
+
 pub found-of-spec : {M : Type 1} → statement M
 found-of-spec =
     tie.close
     (tie.spec
     (search needs)
     (search needs)
+    cast-e
     returns
     (search needs)
     returns-2
@@ -48,5 +64,6 @@ found-of-spec =
     (search needs)
     (search needs)
     (search needs)
+    cast-k
     returns-3
     returns-4)

@@ -1,9 +1,8 @@
--- `opcodes::table::action_of` meets its contract: an arm reads the entry of its number, and `_` is 0 or past the end.
+-- `opcodes::table::action_of` meets its contract: an arm reads the entry of its number, and `_` is past the end.
 -- Assumes nothing.
-use mathlib.Core.Path.{refl, sym, ap}
+use mathlib.Core.Path.{sym, ap}
 use Rattle.opcodes.specs.Numbers.{allActions, actionOf}
-use Rattle.opcodes.specs.declared.instruction.Action.the-variants.{Inherent}
-use Rattle.opcodes.specs.declared.instruction.Inherent.the-variants.{Nop}
+use Rattle.opcodes.specs.declared.instruction.Action.the-variants.{Test}
 use Rattle.opcodes.proofs.Missed.{missed}
 use Rattle.opcodes.proofs.table.action_of.Statement.{statement}
 use Rattle.opcodes.proofs.table.action_of.Tie as tie
@@ -149,4 +148,4 @@ action-of-spec =
     (λ c. ap actionOf (sym (c .match .keys135)))
     (λ c. ap actionOf (sym (c .match .keys136)))
     (λ c. ap actionOf (sym (c .match .keys137)))
-    (λ c. missed (c .before .args .n) allActions (Inherent Nop) 137 refl refl (c .match .rest)))
+    (λ c. missed (c .before .args .n) allActions Test (c .match .rest)))

@@ -1,6 +1,6 @@
--- `opcodes::table::mode_of` meets its contract: an arm reads the entry of its number, and `_` is 0 or past the end.
+-- `opcodes::table::mode_of` meets its contract: an arm reads the entry of its number, and `_` is past the end.
 -- Assumes nothing.
-use mathlib.Core.Path.{refl, sym, ap}
+use mathlib.Core.Path.{sym, ap}
 use Rattle.opcodes.specs.Numbers.{allModes, modeOf}
 use Rattle.opcodes.specs.declared.instruction.Mode.the-variants.{Inherent}
 use Rattle.opcodes.proofs.Missed.{missed}
@@ -24,4 +24,5 @@ mode-of-spec =
     (λ c. ap modeOf (sym (c .match .keys11)))
     (λ c. ap modeOf (sym (c .match .keys12)))
     (λ c. ap modeOf (sym (c .match .keys13)))
-    (λ c. missed (c .before .args .n) allModes Inherent 13 refl refl (c .match .rest)))
+    (λ c. ap modeOf (sym (c .match .keys14)))
+    (λ c. missed (c .before .args .n) allModes Inherent (c .match .rest)))

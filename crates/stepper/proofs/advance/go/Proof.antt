@@ -1,101 +1,148 @@
 use borrow.Author.Needs.{needs}
-use mathlib.Core.Path.{_≡_, refl, sym, ap, _∙_}
+use mathlib.Core.Path.{_≡_, refl, sym, _∙_}
 use native.Mathlib.Omega.{arith}
 use lib.ListN.{length}
-use Rattle.stepper.specs.Run.{AfterRun}
-use Rattle.stepper.proofs.Loop.{Reached, begun, stopped, uncovered, costs, homed, again}
+use Prim.Native.Nat.{_<_, _%_}
+use Rattle.stepper.specs.Step.{stepOf}
+use Rattle.stepper.specs.Advance.{stepped}
+use Rattle.stepper.proofs.Waits.{executable}
+use Rattle.stepper.proofs.Next.{Here, nowhere, in-tables, length-word, waiting, done-here, executes, fit}
+use Rattle.stepper.proofs.Turn.{told}
+use Rattle.stepper.proofs.Loop.{Reached, begun, stopped, uncovered, cost, homed, again}
 use Rattle.stepper.proofs.advance.go.Statement.{statement}
 use Rattle.stepper.proofs.advance.go.Tie as tie
 
 abbrev Inv-loop : tie.InvT-loop
-Inv-loop mem₀ budget tc ta tm q₀ left₀ mem q left = (length mem ≡ length mem₀) × Reached budget q₀ mem₀ left q mem
+Inv-loop mem₀ budget tc ta tm q₀ left₀ mem q left = (length mem ≡ length mem₀) × (q .pc < 65536) × Reached budget q₀ mem₀ left q mem
 
 abbrev μ-loop : tie.MeasureT-loop
 μ-loop mem₀ budget tc ta tm q₀ left₀ mem q left = left
 
+-- from a point of the loop back to the call, to the turn's begin, to the place that was found, and past the budget's test to that of the number
+abbrev called : tie.At-loop Inv-loop μ-loop → tie.Start Inv-loop μ-loop
+called c = c .before .before .before .before .before
+
+abbrev turn : tie.After-place Inv-loop μ-loop → tie.At-loop Inv-loop μ-loop
+turn c = c .before .before .before .before .before
+
+abbrev placed : tie.After-waits Inv-loop μ-loop → tie.After-place Inv-loop μ-loop
+placed c = c .before .before .before .before
+
+abbrev passed : tie.After-execute Inv-loop μ-loop → tie.Else2 Inv-loop μ-loop
+passed c = c .before .before .before .before .before .before .before
+
+abbrev waited : tie.After-execute Inv-loop μ-loop → tie.After-waits Inv-loop μ-loop
+waited c = passed c .before .before
+
+whole : (c : tie.At-loop Inv-loop μ-loop) → length (c .loop .mem) ≡ 65536
+whole c = c .loop .inv .0 ∙ called c .pre
+
+here : (c : tie.After-place Inv-loop μ-loop)
+    → let l = turn c .loop in let g = c .place .given .0 in Here (l .q) (l .mem) (g .0) (g .1 .0) (g .1 .1 .0)
+here c = record { whole = whole (turn c); low = turn c .loop .inv .1; found = sym (c .before .before .find .ensures) ∙ c .place .given .1 }
+
+-- the turn's step, from what `execute` ensures
+executed : (c : tie.After-execute Inv-loop μ-loop)
+    → let l = turn (placed (waited c)) .loop in let e = placed (waited c) .place .given .0 .1 .1 .0 in
+    stepOf (l .q) (l .mem) ≡ stepped (c .execute .result) (e % 256) (c .execute .last .1 .1 .1 .1 .0)
+executed c =
+    let w = waited c in
+    let n = w .before .number-at in
+    let k = c .before .before .before .before .before .mode-number-at in
+    executes (here (placed w)) (n .result) (n .ensures) (w .waits .ensures) (passed c .before .if1 .left)
+    (k .result) (k .ensures) (c .before .before .before .before .up .ensures) (c .before .before .before .up2 .ensures)
+    (c .before .before .with-pc .ensures) (c .execute .ensures)
+
 loop-holds : tie.Need-loop-holds Inv-loop μ-loop
 loop-holds c =
-    let z = c .before in (refl, begun (z .args .budget) (z .args .r) (z .args .mem .now))
+    let z = c .before .before .before .before .args in (refl, omega arith, begun (z .budget) (z .r) (z .mem .now))
 
-advance-requires : tie.Need-advance-requires Inv-loop μ-loop
-advance-requires c κs =
-    let z = c .before .before .before in (c .before .loop .inv .0 ∙ z .pre .0, (z .pre .1 .0, (z .pre .1 .1 .0, z .pre .1 .1 .1)))
+find-requires : tie.Need-find-requires Inv-loop μ-loop
+find-requires c κs = (whole (c .before .before), c .before .before .before .before .before .costs .ensures)
 
-enum-known-x : tie.Need-enum-known-x Inv-loop μ-loop
-enum-known-x c = search needs
-
-sub-t15 : tie.Need-sub-t15 Inv-loop μ-loop
-sub-t15 c = c .before .before .before .before .before .before .before .loop .inv .1 .0
+sub-t21 : tie.Need-sub-t21 Inv-loop μ-loop
+sub-t21 c = c .before .before .before .before .before .loop .inv .2 .within
 
 same-length : tie.Need-same-length Inv-loop μ-loop
-same-length c = c .before .before .before .before .before .advance .kept .1 .0 ∙ c .before .before .before .before .before .before .before .loop .inv .0
+same-length c = c .before .before .before .before .before .loop .inv .0
 
 returns : tie.Need-returns Inv-loop μ-loop
 returns c =
-    let z = c .before .before .before .before .before .before .before .before .before in
-    let l = c .before .before .before .before .before .before .before .loop in
-    let v = c .before .before .before .before .before .advance in
-    let e = stopped (z .args .budget) (z .args .r) (z .args .mem .now) (l .left) (l .q) (l .mem) (l .inv .1) (v .ensures) (c .before .x .given .1) in
-    (sym (ap (λ (w : AfterRun). w .answer) e), sym (ap (λ (w : AfterRun). w .memory) e))
+    let l = c .before .before .before .before .before .loop in
+    let nothing = sym (c .before .before .find .ensures) ∙ c .enum-told .given .1 in
+    told (stopped (l .inv .2) (nowhere (l .q) (l .mem) (whole (c .before .before .before .before .before)) (l .inv .1) nothing))
 
-enum-told : tie.Need-enum-told Inv-loop μ-loop
-enum-told c = search needs
+number-at-requires : tie.Need-number-at-requires Inv-loop μ-loop
+number-at-requires c κs = (in-tables (here (c .before .before)), turn (c .before .before) .before .before .actions .ensures)
 
-sub-t17 : tie.Need-sub-t17 Inv-loop μ-loop
-sub-t17 c = c .before .before .before .before .before .before .loop .inv .1 .0
+sub-t26 : tie.Need-sub-t26 Inv-loop μ-loop
+sub-t26 c = turn (placed (c .before)) .loop .inv .2 .within
 
 same-length-2 : tie.Need-same-length-2 Inv-loop μ-loop
-same-length-2 c = c .before .before .before .before .advance .kept .1 .0 ∙ c .before .before .before .before .before .before .loop .inv .0
+same-length-2 c = turn (placed (c .before)) .loop .inv .0
 
 returns-2 : tie.Need-returns-2 Inv-loop μ-loop
 returns-2 c =
-    let z = c .before .before .before .before .before .before .before .before in
-    let l = c .before .before .before .before .before .before .loop in
-    let v = c .before .before .before .before .advance in
-    let e = uncovered (z .args .budget) (z .args .r) (z .args .mem .now) (l .left) (l .q) (l .mem) (l .inv .1) (v .ensures) (c .enum-told .given .1) in
-    (sym (ap (λ (w : AfterRun). w .answer) e), sym (ap (λ (w : AfterRun). w .memory) e))
+    let w = c .before in
+    let n = w .before .number-at in
+    told (stopped (turn (placed w) .loop .inv .2) (waiting (here (placed w)) (n .result) (n .ensures) (w .waits .ensures) (c .if1 .taken)))
 
-enum-known-d : tie.Need-enum-known-d Inv-loop μ-loop
-enum-known-d c = search needs
-
-sub-left : tie.Need-sub-left Inv-loop μ-loop
-sub-left c =
-    let z = c .before .before .before .before .before .before .before .before .before in
-    let l = c .before .before .before .before .before .before .before .loop in
-    let v = c .before .before .before .before .before .advance in
-    costs (z .args .budget) (z .args .r) (z .args .mem .now) (l .left) (l .q) (l .mem) (l .inv .1) _ (v .ensures) (c .before .d .given .1) .1
-
-sub-t20 : tie.Need-sub-t20 Inv-loop μ-loop
-sub-t20 c =
-    let z = c .before .before .before .before .before .before .before .before .before .before .before in
-    let l = c .before .before .before .before .before .before .before .before .before .loop in
-    let v = c .before .before .before .before .before .before .before .advance in
-    omega (arith, l .inv .1 .0)
+sub-t30 : tie.Need-sub-t30 Inv-loop μ-loop
+sub-t30 c = turn (placed (c .before .before)) .loop .inv .2 .within
 
 same-length-3 : tie.Need-same-length-3 Inv-loop μ-loop
-same-length-3 c = c .before .before .before .before .before .before .before .advance .kept .1 .0 ∙ c .before .before .before .before .before .before .before .before .before .loop .inv .0
+same-length-3 c = turn (placed (c .before .before)) .loop .inv .0
 
 returns-3 : tie.Need-returns-3 Inv-loop μ-loop
 returns-3 c =
-    let z = c .before .before .before .before .before .before .before .before .before .before .before in
-    let l = c .before .before .before .before .before .before .before .before .before .loop in
-    let v = c .before .before .before .before .before .before .before .advance in
-    let e = homed (z .args .budget) (z .args .r) (z .args .mem .now) (l .left) (l .q) (l .mem) (l .inv .1) _ (v .ensures) (c .before .before .before .d .given .1) (c .if1 .taken) in
-    (sym (ap (λ (w : AfterRun). w .answer) e), sym (ap (λ (w : AfterRun). w .memory) e))
+    let w = c .before .before in
+    let n = w .before .number-at in
+    let d = done-here (here (placed w)) (n .result) (n .ensures) (w .waits .ensures) (c .before .if1 .left) in
+    told (uncovered (turn (placed w) .loop .inv .2) d (c .if2 .taken))
+
+mode-number-at-requires : tie.Need-mode-number-at-requires Inv-loop μ-loop
+mode-number-at-requires c κs =
+    let p = placed (c .before .before .before) in (in-tables (here p), turn p .before .modes .ensures)
+
+cast-up : tie.Need-cast-up Inv-loop μ-loop
+cast-up c = omega (arith, length-word (here (placed (c .before .before .before .before .before))))
+
+execute-requires : tie.Need-execute-requires Inv-loop μ-loop
+execute-requires c κs =
+    let w = c .before .before .before .before .before .before .before .before in
+    let n = w .before .number-at in
+    let k = c .before .before .before .before .mode-number-at in
+    let p = placed w in (
+      whole (turn p),
+      (
+        executable (n .result) (w .waits .ensures) (c .before .before .before .before .before .before .before .if1 .left),
+        fit (p .place .given .0 .0) (n .result) (k .result) (n .ensures) (k .ensures),
+      ),
+    )
+
+sub-t41 : tie.Need-sub-t41 Inv-loop μ-loop
+sub-t41 c =
+    let i = turn (placed (waited (c .before .before .before .before))) .loop .inv .2 in omega (arith, i .within)
+
+same-length-4 : tie.Need-same-length-4 Inv-loop μ-loop
+same-length-4 c =
+    let x = c .before .before .before .before in x .execute .kept .1 .1 .1 .1 .0 ∙ turn (placed (waited x)) .loop .inv .0
+
+returns-4 : tie.Need-returns-4 Inv-loop μ-loop
+returns-4 c =
+    let x = c .before .before .before .before in
+    told (homed (turn (placed (waited x)) .loop .inv .2) (executed x) (passed x .if2 .left) (c .if3 .taken))
 
 loop-less : tie.Need-loop-less Inv-loop μ-loop
 loop-less c =
-    let z = c .before .before .before .before .before .before .before .before .before .before .before in
-    let l = c .before .before .before .before .before .before .before .before .before .loop in
-    let v = c .before .before .before .before .before .before .before .advance in
-    omega (arith, costs (z .args .budget) (z .args .r) (z .args .mem .now) (l .left) (l .q) (l .mem) (l .inv .1) _ (v .ensures) (c .before .before .before .d .given .1))
+    let x = c .before .before .before .before in
+    omega (arith, cost (turn (placed (waited x)) .loop .inv .2) (executed x), passed x .if2 .left)
 
 loop-again : tie.Need-loop-again Inv-loop μ-loop
 loop-again c =
-    let z = c .before .before .before .before .before .before .before .before .before .before .before in
-    let l = c .before .before .before .before .before .before .before .before .before .loop in
-    let v = c .before .before .before .before .before .before .before .advance in
-    (v .kept .1 .0 ∙ l .inv .0, again (z .args .budget) (z .args .r) (z .args .mem .now) (l .left) (l .q) (l .mem) (l .inv .1) _ (v .ensures) (c .before .before .before .d .given .1) (c .if1 .left))
+    let x = c .before .before .before .before in
+    let l = turn (placed (waited x)) .loop in
+    (x .execute .kept .1 .1 .1 .1 .0 ∙ l .inv .0, omega arith, again (l .inv .2) (executed x) (passed x .if2 .left) (c .if3 .left))
 
 pub go-spec : {M : Type 1} → statement M
 go-spec =
@@ -103,20 +150,32 @@ go-spec =
     (tie.spec
     Inv-loop
     μ-loop
+    (search needs)
+    (search needs)
+    (search needs)
     loop-holds
-    advance-requires
-    enum-known-x
-    sub-t15
+    find-requires
+    (search needs)
+    sub-t21
     same-length
     returns
-    enum-told
-    sub-t17
+    (search needs)
+    number-at-requires
+    (search needs)
+    sub-t26
     same-length-2
     returns-2
-    enum-known-d
-    sub-left
-    sub-t20
+    sub-t30
     same-length-3
     returns-3
+    mode-number-at-requires
+    (search needs)
+    cast-up
+    (search needs)
+    (search needs)
+    execute-requires
+    sub-t41
+    same-length-4
+    returns-4
     loop-less
     loop-again)

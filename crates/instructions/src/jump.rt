@@ -1,0 +1,57 @@
+// Branches, jumps and calls.
+ghost use mathlib.Core.Path.{_≡_};
+ghost use lib.ListN.{length};
+ghost use Rattle.registers.specs.Registers.{withPc};
+ghost use Rattle.opcodes.specs.Decode.{pick};
+ghost use Rattle.opcodes.specs.declared.instruction.Action.the-variants as Action;
+ghost use Rattle.instructions.specs.Sited.{GoesTo, GoesOnBits, JumpsTo, StoresAt};
+use crate::compute::all_set;
+use crate::compute::none_set;
+use memory::push_word;
+use opcodes::condition::holds;
+use registers::Registers;
+use registers::word::down;
+
+// On to the target of a branch that is taken.
+fn branch_if(taken: bool, t: u16, r: Registers) -> Registers
+    ensures { λ q. ⌜ q ≡ withPc r (pick taken t (r .pc)) ⌝ }
+{
+    if taken { r.with_pc(t) } else { r }
+}
+
+// BRA .. BLE: the test k.
+pub fn branch(k: u8, t: u16, r: Registers) -> Registers
+    ensures { λ q. ⌜ GoesTo (Action.Branch k) t r q ⌝ }
+{
+    branch_if(holds(k, r.flags), t, r)
+}
+
+// BRSET of the byte v with the mask k.
+pub fn branch_set(v: u8, k: u8, t: u16, r: Registers) -> Registers
+    ensures { λ q. ⌜ GoesOnBits Action.Brset v k t r q ⌝ }
+{
+    branch_if(all_set(v, k), t, r)
+}
+
+// BRCLR of the byte v with the mask k.
+pub fn branch_clear(v: u8, k: u8, t: u16, r: Registers) -> Registers
+    ensures { λ q. ⌜ GoesOnBits Action.Brclr v k t r q ⌝ }
+{
+    branch_if(none_set(v, k), t, r)
+}
+
+// JMP.
+pub fn jump(at: u16, r: Registers) -> Registers
+    ensures { λ q. ⌜ JumpsTo Action.Jmp at r q ⌝ }
+{
+    r.with_pc(at)
+}
+
+// JSR and BSR: PC stands past the instruction.
+pub fn call(at: u16, r: Registers, mem: &mut [u8]) -> Registers
+    requires { ⌜ length (now mem) ≡ 65536 ⌝ }
+    ensures { λ q. ⌜ StoresAt Action.Call at r (now (mem .entry)) q (now (mem .exit)) ⌝ }
+{
+    push_word(mem, r.sp, r.pc);
+    r.with_pc_sp(at, down(r.sp, 2))
+}

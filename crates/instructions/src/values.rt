@@ -1,0 +1,86 @@
+// The instructions that leave memory and PC alone; of these LDS moves SP. Each is called with its case as a constant.
+ghost use Rattle.opcodes.specs.declared.instruction.Action.the-variants as Action;
+ghost use Rattle.instructions.specs.Sited.{Leaves, TakesByte, TakesWord};
+use crate::compute::accumulator;
+use crate::compute::to_word;
+use crate::compute::with_accumulator;
+use crate::compute::word;
+use crate::inherent::inherent;
+use arithmetic::byte::binary;
+use arithmetic::byte::tst;
+use arithmetic::byte::unary;
+use arithmetic::word::add16;
+use arithmetic::word::logic16;
+use arithmetic::word::sub16;
+use opcodes::instruction::Accumulator;
+use opcodes::instruction::Binary;
+use opcodes::instruction::Inherent;
+use opcodes::instruction::Unary;
+use opcodes::instruction::Word;
+use registers::Registers;
+
+pub fn inherent_on(i: Inherent, r: Registers) -> Registers
+    ensures { λ q. ⌜ Leaves (Action.Inherent i) r q ⌝ }
+{
+    inherent(i, r)
+}
+
+pub fn unary_on(u: Unary, c: Accumulator, r: Registers) -> Registers
+    ensures { λ q. ⌜ Leaves (Action.Unary u c) r q ⌝ }
+{
+    let w = unary(u, accumulator(c, r), r.flags);
+    with_accumulator(c, r, w.value, w.flags)
+}
+
+pub fn test_accumulator(c: Accumulator, r: Registers) -> Registers
+    ensures { λ q. ⌜ Leaves (Action.TstAccumulator c) r q ⌝ }
+{
+    r.with_flags(tst(accumulator(c, r), r.flags))
+}
+
+pub fn binary_on(b: Binary, c: Accumulator, v: u8, r: Registers) -> Registers
+    ensures { λ q. ⌜ TakesByte (Action.Binary b c) v r q ⌝ }
+{
+    let w = binary(b, accumulator(c, r), v, r.flags);
+    with_accumulator(c, r, w.value, w.flags)
+}
+
+// TST of memory.
+pub fn test_byte(v: u8, r: Registers) -> Registers
+    ensures { λ q. ⌜ TakesByte Action.TstMemory v r q ⌝ }
+{
+    r.with_flags(tst(v, r.flags))
+}
+
+pub fn load_word(w: Word, v: u16, r: Registers) -> Registers
+    ensures { λ q. ⌜ TakesWord (Action.LoadWord w) v r q ⌝ }
+{
+    let q = to_word(w, r, v, logic16(v, r.flags));
+    match w {
+        Word::D => q,
+        Word::X => q,
+        Word::Y => q,
+        Word::S => q.with_sp(v),
+    }
+}
+
+pub fn add_word(v: u16, r: Registers) -> Registers
+    ensures { λ q. ⌜ TakesWord Action.Addd v r q ⌝ }
+{
+    let w = add16(r.d(), v, r.flags);
+    r.with_d(w.value, w.flags)
+}
+
+pub fn subtract_word(v: u16, r: Registers) -> Registers
+    ensures { λ q. ⌜ TakesWord Action.Subd v r q ⌝ }
+{
+    let w = sub16(r.d(), v, r.flags);
+    r.with_d(w.value, w.flags)
+}
+
+pub fn compare_word(w: Word, v: u16, r: Registers) -> Registers
+    ensures { λ q. ⌜ TakesWord (Action.CompareWord w) v r q ⌝ }
+{
+    let difference = sub16(word(w, r), v, r.flags);
+    r.with_flags(difference.flags)
+}

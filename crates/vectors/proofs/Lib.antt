@@ -1,0 +1,5 @@
+pub mod Answers
+pub mod Alike
+pub mod Stores
+pub mod Holding
+pub mod Text

@@ -1,0 +1,51 @@
+-- What is counted of lines and of places. The counts wrap at 2^32.
+-- Assumes nothing.
+use Prim.Native.Nat.{ℕ, _+_, _%_}
+use lib.Dec.{eqb}
+use Rattle.opcodes.specs.Decode.{pick}
+use Rattle.vectors.specs.declared.count.Counts.{Counts}
+use Rattle.vectors.specs.declared.verdict.Verdict.{Verdict}
+use Rattle.vectors.specs.declared.verdict.Verdict.the-variants.{Malformed, Differs, Agrees}
+
+abbrev pub next : ℕ → ℕ
+next n = (n + 1) % 4294967296
+
+abbrev pub none : Counts
+none = record { vectors = 0; parts = 0; gnu = 0; mame = 0; both = 0; malformed = 0; differences = 0 }
+
+-- 0: each simulator in part; 1: GNU's; 2: MAME's; else both
+abbrev pub confirmedOf : Counts → ℕ → Counts
+confirmedOf c kind =
+    record {
+      vectors = next (c .vectors);
+      parts = pick (eqb kind 0) (next (c .parts)) (c .parts);
+      gnu = pick (eqb kind 1) (next (c .gnu)) (c .gnu);
+      mame = pick (eqb kind 2) (next (c .mame)) (c .mame);
+      both = pick (eqb kind 0) (c .both) (pick (eqb kind 1) (c .both) (pick (eqb kind 2) (c .both) (next (c .both))));
+      malformed = c .malformed;
+      differences = c .differences;
+    }
+
+abbrev pub countedOf : Counts → ℕ → Verdict → Counts
+countedOf c kind Malformed =
+    record {
+      vectors = c .vectors;
+      parts = c .parts;
+      gnu = c .gnu;
+      mame = c .mame;
+      both = c .both;
+      malformed = next (c .malformed);
+      differences = c .differences;
+    }
+countedOf c kind Differs =
+    let n = confirmedOf c kind in
+    record {
+      vectors = n .vectors;
+      parts = n .parts;
+      gnu = n .gnu;
+      mame = n .mame;
+      both = n .both;
+      malformed = n .malformed;
+      differences = next (n .differences);
+    }
+countedOf c kind Agrees = confirmedOf c kind

@@ -1,0 +1,36 @@
+-- Upper-case hexadecimal digits in a line of text, and the bytes, words and registers that they spell.
+-- Assumes nothing.
+use Prim.Native.Nat.{ℕ, _+_, _-_, _*_, _%_}
+use mathlib.Core.List.{List}
+use lib.Dec.{ltb}
+use lib.ListN.{getD}
+use Rattle.registers.specs.declared.Registers.{Registers}
+use Rattle.opcodes.specs.Decode.{pick}
+
+-- the value of a digit `0` to `9` or `A` to `F`, and 16 for any other byte
+unfoldable pub digitOf : ℕ → ℕ
+digitOf c = pick (ltb c 48) 16 (pick (ltb c 58) (c - 48) (pick (ltb c 65) 16 (pick (ltb c 71) (c - 55) 16)))
+
+-- the value of the digit at a place; 0 where there is none
+abbrev pub valueIn : List ℕ → ℕ → ℕ
+valueIn s i = digitOf (getD s i 0) % 16
+
+-- two digits and four, the high one first
+unfoldable pub byteIn : List ℕ → ℕ → ℕ
+byteIn s i = valueIn s i * 16 + valueIn s (i + 1)
+
+unfoldable pub wordIn : List ℕ → ℕ → ℕ
+wordIn s i = byteIn s i * 256 + byteIn s (i + 2)
+
+-- 22 digits: A B X Y SP PC flags
+unfoldable pub registersIn : List ℕ → ℕ → Registers
+registersIn s i =
+    record {
+      x = wordIn s (i + 4);
+      y = wordIn s (i + 8);
+      sp = wordIn s (i + 12);
+      pc = wordIn s (i + 16);
+      a = byteIn s i;
+      b = byteIn s (i + 2);
+      flags = byteIn s (i + 20);
+    }

@@ -1,0 +1,103 @@
+// A difference by its line and place: what differs, what was expected and what step answered.
+ghost use Rattle.vectors.specs.Line.{Shaped};
+use crate::compare::same_registers;
+use crate::hex::byte_in;
+use crate::hex::registers_in;
+use crate::print::byte;
+use crate::print::decimal;
+use crate::print::registers;
+use crate::print::text;
+use crate::print::word;
+use crate::vector::expected_in;
+use crate::vector::memory_in;
+use crate::vector::place_in;
+use registers::Cycles;
+use registers::Registers;
+use stepper::answer::Refusal;
+use stepper::answer::Stepped;
+use stepper::step;
+
+fn without_flags(r: Registers) -> Registers {
+    let mut q = r;
+    q.flags = 0;
+    q
+}
+
+// What differs of an answer that is done.
+fn parts(p: Registers, k: Cycles, q: Registers, c: u32) {
+    if !same_registers(without_flags(p), without_flags(q)) {
+        text(b" registers");
+    }
+    if p.flags != q.flags {
+        text(b" flags");
+    }
+    if k.0 != c {
+        text(b" cycles");
+    }
+}
+
+fn outcome(r: Registers, cycles: u32) {
+    registers(r);
+    text(b" cycles ");
+    decimal(cycles as u64);
+    text(b"\n");
+}
+
+fn answered(a: Stepped) {
+    text(b"  answered: ");
+    match a {
+        Stepped::Done(r, k) => outcome(r, k.0),
+        Stepped::Refused(x) => match x {
+            Refusal::BadMemory => text(b"refused 21\n"),
+            Refusal::NoInstruction(_) => text(b"refused 22\n"),
+            Refusal::Waits(_) => text(b"refused 23\n"),
+        },
+    }
+}
+
+// The first byte of memory that differs; the length of both where none does.
+fn first_difference(a: &[u8; 65536], b: &[u8; 65536]) -> usize {
+    let mut i = 0;
+    while i < 65536 {
+        if a[i] != b[i] {
+            return i;
+        }
+        i += 1;
+    }
+    i
+}
+
+fn memory(mem: &[u8; 65536], expected: &[u8; 65536]) {
+    let i = first_difference(mem, expected);
+    if i < 65536 {
+        word(b"  memory at ", (i % 65536) as u16);
+        byte(b": expected ", expected[i]);
+        byte(b", found ", mem[i]);
+        text(b"\n");
+    }
+}
+
+pub fn difference(number: u32, s: &[u8])
+    requires { ⌜ Shaped (now s) ⌝ }
+{
+    let mut mem = memory_in(s);
+    let expected = expected_in(s);
+    let q = registers_in(s, 29);
+    let cycles = byte_in(s, 3) as u32;
+    let a = step(registers_in(s, 6), &mut mem);
+    text(b"line ");
+    decimal(number as u64);
+    word(b", place ", place_in(s));
+    text(b":");
+    match a {
+        Stepped::Done(p, k) => parts(p, k, q, cycles),
+        Stepped::Refused(_) => text(b" refused"),
+    }
+    if first_difference(&mem, &expected) < 65536 {
+        text(b" memory");
+    }
+    text(b"\n  expected: ");
+    outcome(q, cycles);
+    answered(a);
+    memory(&mem, &expected);
+}

@@ -1,0 +1,261 @@
+/*
+ * Calls each entry of jugrond.h on good and bad input, and looks at every byte of what was lent and at guard bytes around it.
+ * Prints a line for each difference and for each group, and last the groups' count; the exit status tells.
+ */
+#include "jugrond.h"
+
+#include "cases.h"
+#include "lent.h"
+
+#include <inttypes.h>
+#include <stdio.h>
+#include <stdlib.h>
+#include <string.h>
+
+static int differences; /* in this group */
+
+static void expect_number(const char *name, const char *what, uint32_t got, uint32_t wanted)
+{
+    if (got != wanted) {
+        differences++;
+        printf("DIFFERENCE %s: %s %" PRIu32 " instead of %" PRIu32 "\n", name, what, got, wanted);
+    }
+}
+
+static void expect_bytes(const char *name, const char *what, const struct lent *l, const uint8_t *wanted)
+{
+    size_t at = first_difference(l, wanted);
+
+    if (at < l->length) {
+        differences++;
+        printf("DIFFERENCE %s: %s: byte %zu is %02x instead of %02x\n", name, what, at, l->bytes[at], wanted[at]);
+    }
+    if (!guards_kept(l)) {
+        differences++;
+        printf("DIFFERENCE %s: a byte outside the %s was written\n", name, what);
+    }
+}
+
+static void put_word(uint8_t *bytes, uint16_t word)
+{
+    bytes[0] = (uint8_t)(word >> 8);
+    bytes[1] = (uint8_t)word;
+}
+
+static void pack(uint8_t *bytes, const struct registers *r)
+{
+    bytes[JUGROND_A] = r->a;
+    bytes[JUGROND_B] = r->b;
+    put_word(bytes + JUGROND_X, r->x);
+    put_word(bytes + JUGROND_Y, r->y);
+    put_word(bytes + JUGROND_SP, r->sp);
+    put_word(bytes + JUGROND_PC, r->pc);
+    bytes[JUGROND_FLAGS] = r->flags;
+}
+
+/* Bytes that differ from address to address, so that a byte stored, moved or cleared is seen. */
+static void fill_background(uint8_t *memory, size_t length)
+{
+    for (size_t i = 0; i < length; i++)
+        memory[i] = (uint8_t)(i ^ (i >> 8) ^ 0x5a);
+}
+
+static void put_bytes(uint8_t *memory, const struct bytes *blocks, size_t count)
+{
+    for (size_t i = 0; i < count; i++)
+        for (size_t j = 0; j < blocks[i].count; j++)
+            memory[(blocks[i].at + j) % JUGROND_MEMORY_BYTES] = blocks[i].byte[j];
+}
+
+/* What one call was lent, and what must stand there afterwards. */
+struct lending {
+    struct lent registers, memory, cycles, place;
+};
+
+static struct lending lend_all(const uint8_t *registers, size_t registers_length, const uint8_t *memory, size_t memory_length,
+                               size_t guard)
+{
+    struct lending l = {
+        .registers = lend(registers, registers_length, guard),
+        .memory = lend(memory, memory_length, guard),
+        .cycles = lend(NULL, sizeof(uint32_t), guard),
+        .place = lend(NULL, sizeof(uint16_t), guard),
+    };
+    return l;
+}
+
+static uint32_t call_step(struct lending *l)
+{
+    return jugrond_step(l->registers.bytes, l->registers.length, l->memory.bytes, l->memory.length,
+                        (uint32_t *)(void *)l->cycles.bytes, (uint16_t *)(void *)l->place.bytes);
+}
+
+static uint32_t call_run(struct lending *l, uint32_t budget)
+{
+    return jugrond_run(l->registers.bytes, l->registers.length, l->memory.bytes, l->memory.length, budget,
+                       (uint32_t *)(void *)l->cycles.bytes, (uint16_t *)(void *)l->place.bytes);
+}
+
+static void expect_all(const char *name, struct lending *l, const uint8_t *registers, const uint8_t *memory, uint32_t cycles,
+                       uint16_t place)
+{
+    expect_bytes(name, "registers", &l->registers, registers);
+    expect_bytes(name, "memory", &l->memory, memory);
+    expect_bytes(name, "cycles", &l->cycles, (const uint8_t *)&cycles);
+    expect_bytes(name, "place", &l->place, (const uint8_t *)&place);
+}
+
+static void take_back_all(struct lending *l)
+{
+    take_back(&l->registers);
+    take_back(&l->memory);
+    take_back(&l->cycles);
+    take_back(&l->place);
+}
+
+static void check_call(const struct call *c, bool is_run, size_t guard)
+{
+    static uint8_t memory[JUGROND_MEMORY_BYTES];
+    uint8_t registers[JUGROND_REGISTER_BYTES];
+    struct lending l;
+
+    fill_background(memory, sizeof memory);
+    put_bytes(memory, c->given, sizeof c->given / sizeof c->given[0]);
+    pack(registers, &c->before);
+    l = lend_all(registers, sizeof registers, memory, sizeof memory, guard);
+    expect_number(c->name, "outcome", is_run ? call_run(&l, c->budget) : call_step(&l), c->outcome);
+    put_bytes(memory, c->written, sizeof c->written / sizeof c->written[0]);
+    pack(registers, &c->after);
+    expect_all(c->name, &l, registers, memory, c->cycles, c->place);
+    take_back_all(&l);
+}
+
+static void check_steps(size_t guard)
+{
+    for (size_t i = 0; i < step_count; i++)
+        check_call(&steps[i], false, guard);
+}
+
+static void check_runs(size_t guard)
+{
+    for (size_t i = 0; i < run_count; i++)
+        check_call(&runs[i], true, guard);
+}
+
+/* Each register byte has its place: a NOP changes PC's low byte alone. */
+static void check_layout(size_t guard)
+{
+    static const uint8_t before[] = {0x01, 0x02, 0x03, 0x04, 0x05, 0x06, 0x07, 0x08, 0x09, 0x0a, 0x0b};
+    static const uint8_t after[] = {0x01, 0x02, 0x03, 0x04, 0x05, 0x06, 0x07, 0x08, 0x09, 0x0b, 0x0b};
+    static uint8_t memory[JUGROND_MEMORY_BYTES];
+    struct lending l;
+
+    fill_background(memory, sizeof memory);
+    memory[0x090a] = 0x01;
+    l = lend_all(before, sizeof before, memory, sizeof memory, guard);
+    expect_number("NOP", "outcome", call_step(&l), JUGROND_DONE);
+    expect_all("NOP", &l, after, memory, 2, 0);
+    take_back_all(&l);
+}
+
+static void check_reset(size_t guard)
+{
+    static const uint8_t wanted[] = {0, 0, 0, 0, 0, 0, 0, 0, 0, 0, 0xd0};
+    struct lent registers = lend(NULL, JUGROND_REGISTER_BYTES, guard);
+
+    expect_number("reset", "outcome", jugrond_reset(registers.bytes, registers.length), JUGROND_DONE);
+    expect_bytes("reset", "registers", &registers, wanted);
+    take_back(&registers);
+}
+
+/* PC is $0000 in what is lent, so that a run that looked for home first would say so. */
+static void check_length(const char *name, size_t registers_length, size_t memory_length, size_t guard)
+{
+    static const uint8_t registers[12] = {0x01, 0x02, 0x03, 0x04, 0x05, 0x06, 0x07, 0x08, 0x00, 0x00, 0x0b, 0x0c};
+    static uint8_t memory[JUGROND_MEMORY_BYTES + 1];
+    struct lending l;
+
+    fill_background(memory, sizeof memory);
+    l = lend_all(registers, registers_length, memory, memory_length, guard);
+    expect_number(name, "outcome of a step", call_step(&l), JUGROND_BAD_LENGTH);
+    expect_all(name, &l, registers, memory, 0, 0);
+    take_back_all(&l);
+    l = lend_all(registers, registers_length, memory, memory_length, guard);
+    expect_number(name, "outcome of a run", call_run(&l, 1000), JUGROND_BAD_LENGTH);
+    expect_all(name, &l, registers, memory, 0, 0);
+    take_back_all(&l);
+    if (registers_length != JUGROND_REGISTER_BYTES) {
+        struct lent reset = lend(registers, registers_length, guard);
+
+        expect_number(name, "outcome of a reset", jugrond_reset(reset.bytes, reset.length), JUGROND_BAD_LENGTH);
+        expect_bytes(name, "registers", &reset, registers);
+        take_back(&reset);
+    }
+}
+
+static void check_lengths(size_t guard)
+{
+    check_length("registers 0", 0, 65536, guard);
+    check_length("registers 10", 10, 65536, guard);
+    check_length("registers 12", 12, 65536, guard);
+    check_length("memory 0", 11, 0, guard);
+    check_length("memory 65,535", 11, 65535, guard);
+    check_length("memory 65,537", 11, 65537, guard);
+    check_length("registers 0, memory 0", 0, 0, guard);
+    check_length("registers 12, memory 65,535", 12, 65535, guard);
+}
+
+/* Routine P by steps, each on the bytes that the one before left, does what the run does. */
+static void check_in_turn(size_t guard)
+{
+    const struct call *p = &runs[0];
+    static uint8_t memory[JUGROND_MEMORY_BYTES];
+    uint8_t registers[JUGROND_REGISTER_BYTES];
+    struct lending l;
+    uint32_t sum = 0, cycles = 0;
+    int done = 0;
+
+    fill_background(memory, sizeof memory);
+    put_bytes(memory, p->given, sizeof p->given / sizeof p->given[0]);
+    pack(registers, &p->before);
+    l = lend_all(registers, sizeof registers, memory, sizeof memory, guard);
+    do {
+        expect_number("P in turn", "outcome", call_step(&l), JUGROND_DONE);
+        memcpy(&cycles, l.cycles.bytes, sizeof cycles);
+        sum += cycles;
+        done++;
+    } while (done < 6 && (l.registers.bytes[JUGROND_PC] | l.registers.bytes[JUGROND_PC + 1]) != 0);
+    expect_number("P in turn", "steps", (uint32_t)done, 6);
+    expect_number("P in turn", "cycles", sum, p->cycles);
+    put_bytes(memory, p->written, sizeof p->written / sizeof p->written[0]);
+    pack(registers, &p->after);
+    expect_all("P in turn", &l, registers, memory, 5, 0);
+    take_back_all(&l);
+}
+
+static const struct {
+    const char *name;
+    void (*check)(size_t guard);
+} groups[] = {
+    {"reset", check_reset}, {"layout", check_layout},   {"steps", check_steps},
+    {"runs", check_runs},   {"lengths", check_lengths}, {"steps in turn", check_in_turn},
+};
+
+int main(void)
+{
+    static const size_t guards[] = {64, 0};
+    int passed = 0, failed = 0;
+
+    for (size_t i = 0; i < sizeof groups / sizeof groups[0]; i++) {
+        differences = 0;
+        for (size_t j = 0; j < sizeof guards / sizeof guards[0]; j++)
+            groups[i].check(guards[j]);
+        printf("%s %s\n", differences == 0 ? "ok" : "FAILED", groups[i].name);
+        if (differences == 0)
+            passed++;
+        else
+            failed++;
+    }
+    printf("%d passed, %d failed\n", passed, failed);
+    return failed == 0 ? EXIT_SUCCESS : EXIT_FAILURE;
+}
