@@ -1,5 +1,5 @@
-// One instruction, by the number of its action: what it reads, computes and writes. The numbers are those of specs/Numbers.antt of opcodes, in four
-// groups of fewer than fifty: so each arm, a call with its case as a constant, is compiled into the loop that runs the instructions.
+// One instruction, by the number of its action (opcodes/specs/Numbers.antt): what it reads, computes and writes. An arm calls with its case as a constant,
+// and a match has fewer than fifty arms, so that the compiler takes each arm into the loop that runs the instructions. `_` stands for no number of a group.
 ghost use mathlib.Core.Path.{_≡_};
 ghost use mathlib.Core.Bool.{true};
 ghost use lib.ListN.{length};
@@ -8,6 +8,7 @@ ghost use Rattle.opcodes.specs.Numbers.{actionOf, modeOf};
 ghost use Rattle.opcodes.specs.Fits.{fits};
 ghost use Rattle.instructions.specs.Effect.{effectOf, Executed};
 ghost use Rattle.instructions.specs.Sited.{operandFrom, Does, Leaves, ReadsAt, DoesAt};
+use crate::inherent::inherent;
 use crate::interrupt::interrupt;
 use crate::interrupt::resume;
 use crate::jump::branch;
@@ -34,7 +35,6 @@ use crate::store::store_word;
 use crate::values::add_word;
 use crate::values::binary_on;
 use crate::values::compare_word;
-use crate::values::inherent_on;
 use crate::values::load_word;
 use crate::values::subtract_word;
 use crate::values::test_accumulator;
@@ -56,36 +56,36 @@ fn on_registers(n: u8, r: Registers) -> Registers
     ensures { λ q. ⌜ Leaves (actionOf n) r q ⌝ }
 {
     match n {
-        0 => inherent_on(Inherent::Nop, r),
-        1 => inherent_on(Inherent::Idiv, r),
-        2 => inherent_on(Inherent::Fdiv, r),
-        3 => inherent_on(Inherent::Lsrd, r),
-        4 => inherent_on(Inherent::Asld, r),
-        5 => inherent_on(Inherent::Tap, r),
-        6 => inherent_on(Inherent::Tpa, r),
-        7 => inherent_on(Inherent::Inx, r),
-        8 => inherent_on(Inherent::Dex, r),
-        9 => inherent_on(Inherent::Iny, r),
-        10 => inherent_on(Inherent::Dey, r),
-        11 => inherent_on(Inherent::Clv, r),
-        12 => inherent_on(Inherent::Sev, r),
-        13 => inherent_on(Inherent::Clc, r),
-        14 => inherent_on(Inherent::Sec, r),
-        15 => inherent_on(Inherent::Cli, r),
-        16 => inherent_on(Inherent::Sei, r),
-        17 => inherent_on(Inherent::Sba, r),
-        18 => inherent_on(Inherent::Cba, r),
-        19 => inherent_on(Inherent::Tab, r),
-        20 => inherent_on(Inherent::Tba, r),
-        21 => inherent_on(Inherent::Daa, r),
-        22 => inherent_on(Inherent::Aba, r),
-        23 => inherent_on(Inherent::Tsx, r),
-        24 => inherent_on(Inherent::Tsy, r),
-        25 => inherent_on(Inherent::Abx, r),
-        26 => inherent_on(Inherent::Aby, r),
-        27 => inherent_on(Inherent::Mul, r),
-        28 => inherent_on(Inherent::Xgdx, r),
-        29 => inherent_on(Inherent::Xgdy, r),
+        0 => inherent(Inherent::Nop, r),
+        1 => inherent(Inherent::Idiv, r),
+        2 => inherent(Inherent::Fdiv, r),
+        3 => inherent(Inherent::Lsrd, r),
+        4 => inherent(Inherent::Asld, r),
+        5 => inherent(Inherent::Tap, r),
+        6 => inherent(Inherent::Tpa, r),
+        7 => inherent(Inherent::Inx, r),
+        8 => inherent(Inherent::Dex, r),
+        9 => inherent(Inherent::Iny, r),
+        10 => inherent(Inherent::Dey, r),
+        11 => inherent(Inherent::Clv, r),
+        12 => inherent(Inherent::Sev, r),
+        13 => inherent(Inherent::Clc, r),
+        14 => inherent(Inherent::Sec, r),
+        15 => inherent(Inherent::Cli, r),
+        16 => inherent(Inherent::Sei, r),
+        17 => inherent(Inherent::Sba, r),
+        18 => inherent(Inherent::Cba, r),
+        19 => inherent(Inherent::Tab, r),
+        20 => inherent(Inherent::Tba, r),
+        21 => inherent(Inherent::Daa, r),
+        22 => inherent(Inherent::Aba, r),
+        23 => inherent(Inherent::Tsx, r),
+        24 => inherent(Inherent::Tsy, r),
+        25 => inherent(Inherent::Abx, r),
+        26 => inherent(Inherent::Aby, r),
+        27 => inherent(Inherent::Mul, r),
+        28 => inherent(Inherent::Xgdx, r),
+        29 => inherent(Inherent::Xgdy, r),
         _ => r,
     }
 }

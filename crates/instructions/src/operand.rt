@@ -36,20 +36,20 @@ pub fn address(k: u8, from: u16, r: Registers, mem: &[u8]) -> u16
     ensures { λ q. ⌜ q ≡ addressAt (modeOf k) from r (now (mem .entry)) ⌝ }
 {
     match k {
-        0 => from,
-        1 => from,
-        2 => from,
-        3 => byte_at(mem, from) as u16,
-        4 => word_at(mem, from),
-        5 => indexed(r.x, from, mem),
-        6 => indexed(r.y, from, mem),
-        7 => target(r.pc, byte_at(mem, from)),
-        8 => byte_at(mem, from) as u16,
-        9 => indexed(r.x, from, mem),
-        10 => indexed(r.y, from, mem),
-        11 => byte_at(mem, from) as u16,
-        12 => indexed(r.x, from, mem),
-        13 => indexed(r.y, from, mem),
+        0 => from, // inherent
+        1 => from, // immediate byte
+        2 => from, // immediate word
+        3 => byte_at(mem, from) as u16, // direct
+        4 => word_at(mem, from), // extended
+        5 => indexed(r.x, from, mem), // indexed by X
+        6 => indexed(r.y, from, mem), // indexed by Y
+        7 => target(r.pc, byte_at(mem, from)), // relative
+        8 => byte_at(mem, from) as u16, // mask, direct
+        9 => indexed(r.x, from, mem), // mask, X
+        10 => indexed(r.y, from, mem), // mask, Y
+        11 => byte_at(mem, from) as u16, // mask and offset, direct
+        12 => indexed(r.x, from, mem), // mask and offset, X
+        13 => indexed(r.y, from, mem), // mask and offset, Y
         _ => from,
     }
 }

@@ -5,7 +5,6 @@ use crate::compute::accumulator;
 use crate::compute::to_word;
 use crate::compute::with_accumulator;
 use crate::compute::word;
-use crate::inherent::inherent;
 use arithmetic::byte::binary;
 use arithmetic::byte::tst;
 use arithmetic::byte::unary;
@@ -14,16 +13,9 @@ use arithmetic::word::logic16;
 use arithmetic::word::sub16;
 use opcodes::instruction::Accumulator;
 use opcodes::instruction::Binary;
-use opcodes::instruction::Inherent;
 use opcodes::instruction::Unary;
 use opcodes::instruction::Word;
 use registers::Registers;
-
-pub fn inherent_on(i: Inherent, r: Registers) -> Registers
-    ensures { λ q. ⌜ Leaves (Action.Inherent i) r q ⌝ }
-{
-    inherent(i, r)
-}
 
 pub fn unary_on(u: Unary, c: Accumulator, r: Registers) -> Registers
     ensures { λ q. ⌜ Leaves (Action.Unary u c) r q ⌝ }

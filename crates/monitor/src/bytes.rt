@@ -2,7 +2,7 @@
 // that number of bytes.
 ghost use mathlib.Core.Path.{_≡_};
 ghost use Prim.Native.Nat.{_+_, _/_, _%_, _<_};
-ghost use lib.ListN.{length, getD, set};
+ghost use lib.ListN.{length, getD};
 ghost use Rattle.monitor.specs.Bytes.{wordIn, withWord, packed, unpacked};
 use registers::Registers;
 

@@ -13,7 +13,12 @@ pub on-address-spec : {M : Type 1} → statement M
 unfolding Sited
 on-address-spec =
     tie.close
-    (tie.spec (search needs) (search needs) (search needs) (search needs) (search needs) (search needs) (search needs) (search needs) (search needs) (search needs) (search needs) (search needs) (search needs) (search needs) (search needs) (search needs) (search needs) (search needs) (search needs) (search needs) (search needs) (search needs) (search needs) (search needs) (search needs) (search needs) (search needs) (search needs) (search needs) (search needs) (search needs) (search needs) (search needs) (search needs) (search needs) (search needs) (search needs) (search needs) (search needs) (search needs) (search needs) (search needs) (search needs) (search needs) (search needs) (search needs) (search needs)
+    (tie.spec (search needs) (search needs) (search needs) (search needs) (search needs) (search needs) (search needs) (search needs)
+    (search needs) (search needs) (search needs) (search needs) (search needs) (search needs) (search needs) (search needs)
+    (search needs) (search needs) (search needs) (search needs) (search needs) (search needs) (search needs) (search needs)
+    (search needs) (search needs) (search needs) (search needs) (search needs) (search needs) (search needs) (search needs)
+    (search needs) (search needs) (search needs) (search needs) (search needs) (search needs) (search needs) (search needs)
+    (search needs) (search needs) (search needs) (search needs) (search needs) (search needs) (search needs)
     (λ c. let a = c .before .before .before .before .before .before .args in does-at (a .at) (a .r) (a .mem .now) (a .from) (c .before .before .before .before .match .keys1) (c .before .before .store-byte .ensures)) (search needs)
     (λ c. let a = c .before .before .before .before .before .before .args in does-at (a .at) (a .r) (a .mem .now) (a .from) (c .before .before .before .before .match .keys2) (c .before .before .store-byte2 .ensures)) (search needs)
     (λ c. let a = c .before .before .before .before .before .before .args in does-at (a .at) (a .r) (a .mem .now) (a .from) (c .before .before .before .before .match .keys3) (c .before .before .store-word .ensures)) (search needs)

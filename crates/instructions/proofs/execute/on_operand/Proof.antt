@@ -13,7 +13,14 @@ pub on-operand-spec : {M : Type 1} → statement M
 unfolding Sited
 on-operand-spec =
     tie.close
-    (tie.spec (search needs) (search needs) (search needs) (search needs) (search needs) (search needs) (search needs) (search needs) (search needs) (search needs) (search needs) (search needs) (search needs) (search needs) (search needs) (search needs) (search needs) (search needs) (search needs) (search needs) (search needs) (search needs) (search needs) (search needs) (search needs) (search needs) (search needs) (search needs) (search needs) (search needs) (search needs) (search needs) (search needs) (search needs) (search needs) (search needs) (search needs) (search needs) (search needs) (search needs) (search needs) (search needs) (search needs) (search needs) (search needs) (search needs) (search needs) (search needs) (search needs) (search needs) (search needs) (search needs) (search needs) (search needs) (search needs) (search needs) (search needs) (search needs) (search needs) (search needs)
+    (tie.spec (search needs) (search needs) (search needs) (search needs) (search needs) (search needs) (search needs) (search needs)
+    (search needs) (search needs) (search needs) (search needs) (search needs) (search needs) (search needs) (search needs)
+    (search needs) (search needs) (search needs) (search needs) (search needs) (search needs) (search needs) (search needs)
+    (search needs) (search needs) (search needs) (search needs) (search needs) (search needs) (search needs) (search needs)
+    (search needs) (search needs) (search needs) (search needs) (search needs) (search needs) (search needs) (search needs)
+    (search needs) (search needs) (search needs) (search needs) (search needs) (search needs) (search needs) (search needs)
+    (search needs) (search needs) (search needs) (search needs) (search needs) (search needs) (search needs) (search needs)
+    (search needs) (search needs) (search needs) (search needs)
     (λ c. let a = c .before .before .before .before .args in reads (a .at) (a .r) (a .mem .now) (c .before .before .match .keys1) (byte-read (a .at) (a .r) (a .mem .now) (actionOf 67) (c .binary-on .ensures) (c .before .byte-at .ensures) (omega arith)))
     (λ c. let a = c .before .before .before .before .args in reads (a .at) (a .r) (a .mem .now) (c .before .before .match .keys2) (byte-read (a .at) (a .r) (a .mem .now) (actionOf 68) (c .binary-on2 .ensures) (c .before .byte-at2 .ensures) (omega arith)))
     (λ c. let a = c .before .before .before .before .args in reads (a .at) (a .r) (a .mem .now) (c .before .before .match .keys3) (byte-read (a .at) (a .r) (a .mem .now) (actionOf 69) (c .binary-on3 .ensures) (c .before .byte-at3 .ensures) (omega arith)))

@@ -13,7 +13,11 @@ pub on-stack-spec : {M : Type 1} → statement M
 unfolding opened
 on-stack-spec =
     tie.close
-    (tie.spec (search needs) (search needs) (search needs) (search needs) (search needs) (search needs) (search needs) (search needs) (search needs) (search needs) (search needs) (search needs) (search needs) (search needs) (search needs) (search needs) (search needs) (search needs) (search needs) (search needs) (search needs) (search needs) (search needs) (search needs) (search needs) (search needs) (search needs) (search needs) (search needs) (search needs) (search needs) (search needs) (search needs) (search needs) (search needs) (search needs) (search needs)
+    (tie.spec (search needs) (search needs) (search needs) (search needs) (search needs) (search needs) (search needs) (search needs)
+    (search needs) (search needs) (search needs) (search needs) (search needs) (search needs) (search needs) (search needs)
+    (search needs) (search needs) (search needs) (search needs) (search needs) (search needs) (search needs) (search needs)
+    (search needs) (search needs) (search needs) (search needs) (search needs) (search needs) (search needs) (search needs)
+    (search needs) (search needs) (search needs) (search needs) (search needs)
     (λ c. let a = c .before .before .before .args in does (a .r) (a .mem .now) (c .before .match .keys1) (c .unary-on .ensures (a .mem .now)))
     (λ c. let a = c .before .before .before .args in does (a .r) (a .mem .now) (c .before .match .keys2) (c .unary-on2 .ensures (a .mem .now)))
     (λ c. let a = c .before .before .before .args in does (a .r) (a .mem .now) (c .before .match .keys3) (c .unary-on3 .ensures (a .mem .now)))

@@ -1,7 +1,7 @@
 -- `set_bits` meets its contract: the byte that was made is that of what was read.
 -- Assumes nothing.
 use borrow.Author.Needs.{needs}
-use mathlib.Core.Path.{sym, subst}
+use mathlib.Core.Path.{subst}
 use Prim.Native.Nat.{ℕ, _<_}
 use native.Mathlib.Omega.{arith}
 use Rattle.instructions.proofs.Effects.{opened}

@@ -14,7 +14,7 @@ returns c = bad-registers _ _ _ (c .if1 .taken)
 
 returns-2 : tie.Need-returns-2
 unfolding runBytesOf
-returns-2 c = bad-memory _ _ _ (c .before .if1 .left) (c .if2 .taken)
+returns-2 c = bad-memory _ _ _ (search needs) (search needs)
 
 -- where the stepper has answered
 answered : (w : tie.After-run) {a : RunAnswer} → a ≡ ranOf (w .run .result)
