@@ -13,7 +13,7 @@ def kind(text):
     if name in ("push", "pop"):
         return "stack"
     if "(" in operands and not name.startswith(("lea", "nop")):
-        return "stack" if "(%rsp" in operands else "other memory"
+        return "stack" if "(%rsp)" in operands else "other memory"  # with an index it is a table that stands there
     if re.match(r"cmp|test|set|bt$|bt[lwq]$", name):
         return "tests"
     if re.match(r"mov|cmov|cbw|cwt|xchg", name):

@@ -32,6 +32,7 @@ ofRun (home q k) m = called 0 (k .0) 0 (packed q) m
 ofRun (spent q k) m = called 100 (k .0) 0 (packed q) m
 ofRun (runRefused n p q k) m = called n (k .0) p (packed q) m
 
+-- the lengths that a step and a run ask for
 abbrev pub sized : List ℕ → List ℕ → Bool
 sized rs m = eqb (length rs) 11 && eqb (length m) 65536
 

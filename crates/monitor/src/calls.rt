@@ -81,7 +81,8 @@ pub fn step_on(regs: &mut [u8], mem: &mut [u8]) -> Reply
     if mem.len() != 65536 {
         return UNFIT;
     }
-    match stepper::step(unpack(regs), mem) {
+    let r = unpack(regs);
+    match stepper::step(r, mem) {
         Stepped::Done(q, k) => reached(q, regs, DONE, k, 0),
         Stepped::Refused(x) => Reply {
             outcome: number_of(x),
@@ -100,7 +101,7 @@ pub fn run_on(regs: &mut [u8], mem: &mut [u8], budget: u32) -> Reply
         return UNFIT;
     }
     if mem.len() != 65536 {
-        return UNFIT; // home or not
+        return UNFIT; // before home is looked at
     }
     let r = unpack(regs);
     match stepper::run(r, mem, budget) {
