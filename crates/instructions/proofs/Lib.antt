@@ -1,5 +1,2 @@
 pub mod Effects
 pub mod Branch
-pub mod Sited
-pub mod Skipped
-pub mod Arms

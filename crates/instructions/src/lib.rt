@@ -1,10 +1,9 @@
-// An inner crate: what one decoded instruction reads, computes and writes.
-mod operand; // where an operand stands
+// An inner crate: what the instructions of each kind read, compute and write. Its functions are proved for every case of their kind.
+pub mod operand; // where an operand stands
 mod compute; // registers by name
-mod inherent; // the instructions on the registers alone
-mod values; // the instructions that leave memory alone
-mod interrupt; // SWI and RTI
-mod stack; // pushes, pulls and RTS
-mod store; // stores and read-modify-writes
-mod jump; // branches, jumps and calls
-pub mod execute; // one instruction, by its number
+pub mod inherent; // the instructions on the registers alone
+pub mod values; // the instructions that leave memory alone
+pub mod interrupt; // SWI and RTI
+pub mod stack; // pushes, pulls and RTS
+pub mod store; // stores and read-modify-writes
+pub mod jump; // branches, jumps and calls

@@ -11,7 +11,7 @@ ghost use Rattle.stepper.specs.Answer.{ranOf};
 ghost use Rattle.stepper.specs.Advance.{Waiting, goOf};
 use crate::answer::Ran;
 use crate::answer::Refusal;
-use instructions::execute::execute;
+use dispatch::execute;
 use memory::byte_at;
 use opcodes::decode::Found;
 use opcodes::decode::found_of;

@@ -1,5 +1,1 @@
-pub mod Answers
-pub mod Alike
-pub mod Stores
-pub mod Holding
 pub mod Text

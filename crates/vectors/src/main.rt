@@ -3,16 +3,11 @@ use count::Counts;
 use print::counted;
 use print::text;
 
-mod compare; // whether a step comes to what a line says
 mod count; // what is counted
-mod hex; // digits, bytes, words and registers in a line
-mod line; // the shape of a line
 mod places; // the opcode maps
 mod print; // text
 mod reader; // the lines of a file
 mod report; // a difference
-mod vector; // the memory and the place that a line says
-mod verdict; // the verdict on a line
 
 fn summary(c: Counts, places: &[u32; 1024]) {
     counted(b"vectors: ", c.vectors as u64);

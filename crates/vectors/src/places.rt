@@ -2,7 +2,6 @@
 use crate::print::counted;
 use crate::print::decimal;
 use crate::print::text;
-use crate::vector::background;
 use check::same;
 use memory::put_byte;
 use registers::Registers;
@@ -10,6 +9,7 @@ use std::num::wrapping_add_u32;
 use stepper::answer::Refusal;
 use stepper::answer::Stepped;
 use stepper::step;
+use vector::loaded::background;
 
 // What a step at $8000 comes to, with a refusal only where it names PC and kept memory.
 enum Stands {

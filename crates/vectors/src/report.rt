@@ -1,21 +1,21 @@
 // A difference by its line and place: what differs, what was expected and what step answered.
-ghost use Rattle.vectors.specs.Line.{Shaped};
-use crate::compare::same_registers;
-use crate::hex::byte_in;
-use crate::hex::registers_in;
+ghost use Rattle.vector.specs.Line.{Shaped};
 use crate::print::byte;
 use crate::print::decimal;
 use crate::print::registers;
 use crate::print::text;
 use crate::print::word;
-use crate::vector::expected_in;
-use crate::vector::memory_in;
-use crate::vector::place_in;
 use registers::Cycles;
 use registers::Registers;
 use stepper::answer::Refusal;
 use stepper::answer::Stepped;
 use stepper::step;
+use vector::compare::same_registers;
+use vector::hex::byte_in;
+use vector::hex::registers_in;
+use vector::loaded::expected_in;
+use vector::loaded::memory_in;
+use vector::loaded::place_in;
 
 fn without_flags(r: Registers) -> Registers {
     let mut q = r;

@@ -1,0 +1,4 @@
+pub mod Answers
+pub mod Alike
+pub mod Stores
+pub mod Holding

@@ -1,0 +1,4 @@
+pub mod Decides
+pub mod Hex
+pub mod Line
+pub mod Vector
