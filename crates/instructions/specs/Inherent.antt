@@ -10,7 +10,7 @@ use Rattle.registers.specs.declared.Data.{Data}
 use Rattle.registers.specs.declared.flags.Flags.{Flags}
 use Rattle.opcodes.specs.declared.instruction.Inherent.{Inherent}
 use Rattle.opcodes.specs.declared.instruction.Inherent.the-variants.{Nop, Idiv, Fdiv, Lsrd, Asld, Tap, Tpa, Inx, Dex, Iny, Dey, Clv, Sev, Clc, Sec, Cli, Sei, Sba, Cba, Tab, Tba, Daa, Aba, Tsx, Tsy, Abx, Aby, Mul, Xgdx, Xgdy}
-use Rattle.arithmetic.specs.Codes.{withZ, withC, withNzvc}
+use Rattle.arithmetic.specs.Codes.{withZ, withC, withV as changedV}
 use Rattle.arithmetic.specs.Byte.{add8Of, sub8Of, logic8Of}
 use Rattle.arithmetic.specs.Word.{asldOf, lsrdOf, mulOf}
 use Rattle.arithmetic.specs.Decimal.{daaOf}
@@ -36,7 +36,7 @@ counted v f = byteOf (withZ (flagsOf f) (eqb v 0))
 
 -- the condition codes with V, C or I alone changed
 abbrev pub withV : ℕ → Bool → ℕ
-withV f v = let g = flagsOf f in byteOf (withNzvc g (g .n) (g .z) v (g .c))
+withV f v = byteOf (changedV (flagsOf f) v)
 
 abbrev pub withCarry : ℕ → Bool → ℕ
 withCarry f c = byteOf (withC (flagsOf f) c)
