@@ -11,14 +11,14 @@ abbrev pub next : ℕ → ℕ
 next n = (n + 1) % 4294967296
 
 abbrev pub none : Counts
-none = record { vectors = 0; parts = 0; gnu = 0; mame = 0; both = 0; malformed = 0; differences = 0 }
+none = record { vectors = 0; neither = 0; gnu = 0; mame = 0; both = 0; malformed = 0; differences = 0 }
 
--- 0: each simulator in part; 1: GNU's; 2: MAME's; else both
+-- 0: neither simulator alone; 1: GNU's; 2: MAME's; else both
 abbrev pub confirmedOf : Counts → ℕ → Counts
 confirmedOf c kind =
     record {
       vectors = next (c .vectors);
-      parts = pick (eqb kind 0) (next (c .parts)) (c .parts);
+      neither = pick (eqb kind 0) (next (c .neither)) (c .neither);
       gnu = pick (eqb kind 1) (next (c .gnu)) (c .gnu);
       mame = pick (eqb kind 2) (next (c .mame)) (c .mame);
       both = pick (eqb kind 0) (c .both) (pick (eqb kind 1) (c .both) (pick (eqb kind 2) (c .both) (next (c .both))));
@@ -30,7 +30,7 @@ abbrev pub countedOf : Counts → ℕ → Verdict → Counts
 countedOf c kind Malformed =
     record {
       vectors = c .vectors;
-      parts = c .parts;
+      neither = c .neither;
       gnu = c .gnu;
       mame = c .mame;
       both = c .both;
@@ -41,7 +41,7 @@ countedOf c kind Differs =
     let n = confirmedOf c kind in
     record {
       vectors = n .vectors;
-      parts = n .parts;
+      neither = n .neither;
       gnu = n .gnu;
       mame = n .mame;
       both = n .both;

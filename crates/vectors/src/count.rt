@@ -8,7 +8,7 @@ use vector::verdict::Verdict;
 
 pub struct Counts {
     pub vectors: u32,
-    pub parts: u32,
+    pub neither: u32,
     pub gnu: u32,
     pub mame: u32,
     pub both: u32,
@@ -21,7 +21,7 @@ pub fn none() -> Counts
 {
     Counts {
         vectors: 0,
-        parts: 0,
+        neither: 0,
         gnu: 0,
         mame: 0,
         both: 0,
@@ -30,7 +30,7 @@ pub fn none() -> Counts
     }
 }
 
-// A vector that GNU's simulator, MAME's or both confirmed, or each of them in part.
+// A vector that GNU's simulator, MAME's or both confirmed in every field, or neither alone.
 fn confirmed(c: Counts, kind: u8) -> Counts
     ensures { λ r. ⌜ r ≡ confirmedOf c kind ⌝ }
 {
@@ -38,7 +38,7 @@ fn confirmed(c: Counts, kind: u8) -> Counts
     n.vectors = wrapping_add_u32(n.vectors, 1);
     match kind {
         0 => {
-            n.parts = wrapping_add_u32(n.parts, 1);
+            n.neither = wrapping_add_u32(n.neither, 1);
         }
         1 => {
             n.gnu = wrapping_add_u32(n.gnu, 1);

@@ -14,7 +14,7 @@ fn summary(c: Counts, places: &[u32; 1024]) {
     counted(b"confirmed by GNU's simulator only: ", c.gnu as u64);
     counted(b"confirmed by MAME's only: ", c.mame as u64);
     counted(b"confirmed by both: ", c.both as u64);
-    counted(b"confirmed by each in part: ", c.parts as u64);
+    counted(b"confirmed by neither alone: ", c.neither as u64);
     places::report(places);
     counted(b"malformed lines: ", c.malformed as u64);
     counted(b"differences: ", c.differences as u64);
