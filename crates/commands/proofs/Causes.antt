@@ -1,0 +1,40 @@
+-- No cause applies to a command where all that must hold of it holds, and only there.
+-- Assumes nothing.
+use Prim.Native.Nat.{ℕ, suc}
+use native.Mathlib.Omega.{arith}
+use mathlib.Core.Path.{_≡_, refl}
+use mathlib.Core.Bool.{Bool, true, false, _&&_}
+use Rattle.commands.specs.Bytes.{pick}
+use Rattle.commands.specs.Cause.{inOrder, rangesHold, edgesHold, separate, inside, causeOf}
+use Rattle.commands.specs.declared.command.Command.{Command}
+use Rattle.commands.specs.declared.prefix.Prefix.{Prefix}
+
+pub both : (a b : Bool) → (a && b) ≡ true → (a ≡ true) × (b ≡ true)
+both true b e = (refl, e)
+both false b e = (e, cc)
+
+-- a test that does not stop at its cause
+passed : (b : Bool) (v n : ℕ) → pick b v (suc n) ≡ 0 → (b ≡ true) × (v ≡ 0)
+passed true v n e = (refl, e)
+passed false v n e = absurd (omega arith)
+
+pub record Allowed (p : Prefix) (c : Command) : Type 0 where
+  pub ordered : inOrder p c ≡ true
+  pub ranged : rangesHold c ≡ true
+  pub edged : edgesHold c ≡ true
+  pub separated : separate (p .header) c ≡ true
+  pub placed : inside (p .header) c ≡ true
+
+pub allowed : (p : Prefix) (c : Command) → causeOf p c ≡ 0 → Allowed p c
+unfolding causeOf
+allowed p c e =
+    let o = passed (inOrder p c) _ 2 e in
+    let r = passed (rangesHold c) _ 3 (o .1) in
+    let g = passed (edgesHold c) _ 4 (r .1) in
+    let s = passed (separate (p .header) c) _ 5 (g .1) in
+    let i = passed (inside (p .header) c) _ 6 (s .1) in
+    record { ordered = o .0; ranged = r .0; edged = g .0; separated = s .0; placed = i .0 }
+
+pub allow : (p : Prefix) (c : Command) → Allowed p c → causeOf p c ≡ 0
+unfolding causeOf
+allow p c a = rw (a .ordered, a .ranged, a .edged, a .separated, a .placed)

@@ -1,0 +1,161 @@
+-- A command's bytes say the command, and the bytes that a command is read from are its own.
+-- Assumes nothing.
+use mathlib.Core.Path.{_≡_, refl}
+use mathlib.Core.Bool.{Bool, true, false}
+use Prim.Native.Nat.{ℕ, zero, suc, _+_, _^_, _≤_, _<_}
+use native.Mathlib.Omega.{arith}
+use native.Mathlib.Numerals.{one-add}
+use mathlib.Core.List.{List, [], _∷_, _++_, append-assoc}
+use lib.Dec.{leb}
+use lib.ListN.{getD, length, take, drop, length-append, length-drop, take-append-drop}
+use lib.Seq.{take-at, drop-at, take-add, length-take-le}
+use borrow.Author.Tests.{ltb-true, leb-true, le-leb}
+use Rattle.commands.specs.Number.{number, digits, AllBytes}
+use Rattle.commands.specs.Rows.{Operand, widthIn, rowOf, known}
+use Rattle.commands.specs.Bytes.{pick, byteOf, operandsOf, joined, encodeOf, sizeOf, widthOf, operandsIn, commandsWith, commandOf, decodeOf}
+use Rattle.commands.specs.Fits.{FitsRow, Fits}
+use Rattle.commands.specs.Fits.FitsRow.{none, more}
+use Rattle.commands.specs.Prefix.{afterOf}
+use Rattle.commands.specs.declared.command.Kind.the-variants.{Code, Data, Stack}
+use Rattle.commands.specs.declared.command.Command.{Command}
+use Rattle.commands.specs.declared.command.Command.the-variants as Command
+use Rattle.commands.specs.declared.decode.Decoded.{Decoded}
+use Rattle.commands.specs.declared.decode.Decoded.the-variants as Decoded
+use Rattle.commands.specs.declared.prefix.Prefix.{Prefix}
+use Rattle.commands.proofs.Digits.{length-digits, number-digits, number-below, digits-number, bytes-take, bytes-drop}
+
+pub length-encode : (c : Command) → length (encodeOf c) ≡ widthOf c
+unfolding encodeOf widthOf
+length-encode Command.End = refl
+length-encode (Command.Window Code w) = refl
+length-encode (Command.Window Data w) = refl
+length-encode (Command.Window Stack w) = refl
+length-encode (Command.Entry a l) = refl
+length-encode (Command.Mark a m) = refl
+length-encode (Command.Name a t) = refl
+
+pub width-positive : (c : Command) → 1 ≤ widthOf c
+unfolding widthOf
+width-positive c = omega arith
+
+pub after-at : (p : Prefix) (c : Command) → afterOf p c .at ≡ p .at + widthOf c
+unfolding afterOf widthOf
+after-at p Command.End = refl
+after-at p (Command.Window Code w) = refl
+after-at p (Command.Window Data w) = refl
+after-at p (Command.Window Stack w) = refl
+after-at p (Command.Entry a l) = refl
+after-at p (Command.Mark a m) = refl
+after-at p (Command.Name a t) = refl
+
+-- ---- the operands of a row
+
+-- what is joined is found again, whatever comes after it
+operands-joined : {row : List Operand} {vs : List ℕ} → FitsRow row vs → (s : List ℕ) → operandsIn row (joined row vs ++ s) ≡ vs
+operands-joined none s = refl
+operands-joined (more {o} {os} {v} {vs} l f) s =
+    let w = widthIn o in
+    let d = digits w v in
+    let r = joined os vs ++ s in
+    let e = length-digits w v in
+    rw (append-assoc d (joined os vs) s, take-at d r w e, drop-at d r w e, number-digits w v l, operands-joined f s)
+
+-- the first w of some bytes
+module _ (w : ℕ) (s : List ℕ) (a : AllBytes s) (room : w ≤ length s) where
+  digits-taken : digits w (number (take w s)) ≡ take w s
+  digits-taken = rw length-take-le at (digits-number (take w s) (bytes-take w a))
+
+  taken-below : number (take w s) < 256 ^ w
+  taken-below = rw length-take-le at (number-below (take w s) (bytes-take w a))
+
+joined-operands : (row : List Operand) (s : List ℕ) → AllBytes s → sizeOf row ≤ length s → joined row (operandsIn row s) ≡ take (sizeOf row) s
+joined-operands [] s a room = refl
+joined-operands (o ∷ os) s a room =
+    let w = widthIn o in
+    rw (digits-taken w s a (omega arith), joined-operands os (drop w s) (bytes-drop w a) (simp length-drop (omega arith)), ← take-add)
+
+fits-operands : (row : List Operand) (s : List ℕ) → AllBytes s → sizeOf row ≤ length s → FitsRow row (operandsIn row s)
+fits-operands [] s a room = none
+fits-operands (o ∷ os) s a room =
+    let w = widthIn o in
+    more (taken-below w s a (omega arith)) (fits-operands os (drop w s) (bytes-drop w a) (simp length-drop (omega arith)))
+
+-- ---- a command and its byte
+
+byte-known : (c : Command) → known (byteOf c) ≡ true
+byte-known Command.End = refl
+byte-known (Command.Window Code w) = refl
+byte-known (Command.Window Data w) = refl
+byte-known (Command.Window Stack w) = refl
+byte-known (Command.Entry a l) = refl
+byte-known (Command.Mark a m) = refl
+byte-known (Command.Name a t) = refl
+
+-- the command of a command's byte and operands
+commands-with : (c : Command) → getD (commandsWith (operandsOf c)) (byteOf c) Command.End ≡ c
+commands-with Command.End = refl
+commands-with (Command.Window Code w) = refl
+commands-with (Command.Window Data w) = refl
+commands-with (Command.Window Stack w) = refl
+commands-with (Command.Entry a l) = refl
+commands-with (Command.Mark a m) = refl
+commands-with (Command.Name a t) = refl
+
+-- the command of a byte has that byte, and the operands that it was made with
+command-parts : (b : ℕ) (s : List ℕ) → b < 7 → (byteOf (commandOf b s) ≡ b) × (operandsOf (commandOf b s) ≡ operandsIn (rowOf b) s)
+unfolding commandOf
+command-parts zero s h = (refl, refl)
+command-parts (suc zero) s h = (refl, refl)
+command-parts (suc (suc zero)) s h = (refl, refl)
+command-parts (suc (suc (suc zero))) s h = (refl, refl)
+command-parts (suc (suc (suc (suc zero)))) s h = (refl, refl)
+command-parts (suc (suc (suc (suc (suc zero))))) s h = (refl, refl)
+command-parts (suc (suc (suc (suc (suc (suc zero)))))) s h = (refl, refl)
+command-parts (suc (suc (suc (suc (suc (suc (suc b))))))) s h = let z : ⊥ = omega arith in absurd z
+
+-- ---- reading
+
+pub decode-encode : (c : Command) (s : List ℕ) → Fits c → decodeOf (encodeOf c ++ s) ≡ Decoded.Found c
+unfolding decodeOf encodeOf commandOf widthOf
+decode-encode c s f =
+    let row = rowOf (byteOf c) in
+    let room : sizeOf row ≤ length (joined row (operandsOf c) ++ s) = simp length-append (omega (arith, length-encode c)) in
+    rw (byte-known c, le-leb _ _ room, operands-joined f s, commands-with c)
+
+module _ (b : ℕ) (s : List ℕ) (c : Command) where
+  picked : (k r : Bool) → pick k (pick r (Decoded.Found (commandOf b s)) Decoded.Cut) Decoded.Unknown ≡ Decoded.Found c → (k ≡ true) × (r ≡ true) × (commandOf b s ≡ c)
+  picked true true e = (refl, refl, cc)
+  picked true false e = (refl, cc, cc)
+  picked false true e = (cc, refl, cc)
+  picked false false e = (cc, cc, cc)
+
+  -- what is read from a byte and those after it has that byte and their operands
+  parts : decodeOf (b ∷ s) ≡ Decoded.Found c → (byteOf c ≡ b) × (operandsOf c ≡ operandsIn (rowOf b) s) × (sizeOf (rowOf b) ≤ length s)
+  unfolding decodeOf
+  parts e =
+      let p = picked (known b) (leb (sizeOf (rowOf b)) (length s)) e in
+      let q = command-parts b s (ltb-true _ _ (p .0)) in
+      (cc (p .2, q .0), cc (p .2, q .1), leb-true _ _ (p .1))
+
+-- nothing is read from no bytes
+none-found : (c : Command) → decodeOf [] ≡ Decoded.Found c → ⊥
+unfolding decodeOf
+none-found c e = let z : _≡_ {A = ℕ} 0 1 = cc in omega arith
+
+pub decode-room : (s : List ℕ) (c : Command) → decodeOf s ≡ Decoded.Found c → widthOf c ≤ length s
+unfolding widthOf
+decode-room [] c e = absurd (none-found c e)
+decode-room (b ∷ s) c e = let p = parts b s c e in rw (p .0) (omega (arith, p .2))
+
+pub encode-decode : (s : List ℕ) (c : Command) → AllBytes s → decodeOf s ≡ Decoded.Found c → encodeOf c ++ drop (widthOf c) s ≡ s
+unfolding encodeOf widthOf
+encode-decode [] c a e = absurd (none-found c e)
+encode-decode (b ∷ s) c a e =
+    let p = parts b s c e in
+    rw (p .1, p .0, joined-operands (rowOf b) s (bytes-drop 1 a) (p .2), one-add, take-append-drop (sizeOf (rowOf b)) s)
+
+pub fits-decoded : (s : List ℕ) (c : Command) → AllBytes s → decodeOf s ≡ Decoded.Found c → Fits c
+fits-decoded [] c a e = absurd (none-found c e)
+fits-decoded (b ∷ s) c a e =
+    let p = parts b s c e in
+    rw (p .1, p .0) (fits-operands (rowOf b) s (bytes-drop 1 a) (p .2))

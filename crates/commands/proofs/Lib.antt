@@ -1,0 +1,6 @@
+pub mod Pieces
+pub mod Digits
+pub mod Coding
+pub mod Causes
+pub mod Sound
+pub mod Printable

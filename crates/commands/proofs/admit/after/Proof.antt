@@ -1,0 +1,31 @@
+-- `commands::admit::after` meets its contract: no sum overflows, since a sound prefix is short.
+-- Assumes nothing.
+use borrow.Author.Needs.{needs}
+use native.Mathlib.Omega.{arith}
+use Rattle.commands.specs.Prefix.{afterOf}
+use Rattle.commands.proofs.Sound.{bounds}
+use Rattle.commands.proofs.admit.after.Statement.{statement}
+use Rattle.commands.proofs.admit.after.Tie as tie
+
+pub after-spec : {M : Type 1} → statement M
+unfolding afterOf
+after-spec =
+    tie.close
+    (tie.spec
+    (search needs)
+    (search needs)
+    (λ c κs. omega (arith, bounds (c .before .before .before .before .before .pre .0)))
+    (search needs)
+    (search needs)
+    (λ c κs. omega (arith, bounds (c .before .before .before .before .before .pre .0)))
+    (search needs)
+    (λ c κs. omega (arith, bounds (c .before .before .before .before .pre .0)))
+    (search needs)
+    (λ c κs. omega (arith, bounds (c .before .before .before .pre .0)))
+    (search needs)
+    (λ c κs. omega (arith, bounds (c .before .before .before .pre .0)))
+    (λ c. simp (c .before .before .before .c .given .1, c .staged .ensures, c .before .with-window .ensures))
+    (λ c. simp (c .before .before .before .c2 .given .1, c .staged2 .ensures, c .before .with-entry .ensures))
+    (λ c. simp (c .before .before .c3 .given .1, c .marked .ensures))
+    (λ c. simp (c .before .enum-told .given .1, c .named .ensures))
+    (λ c. simp (c .before .enum-told2 .given .1, c .staged3 .ensures)))

@@ -1,0 +1,95 @@
+-- `cause` meets its contract: the tests stand in the order of the causes.
+-- Assumes nothing.
+use mathlib.Core.Path.{_≡_, sym, _∙_}
+use mathlib.Core.Bool.{Bool, true, false, not}
+use borrow.Author.Needs.{needs}
+use borrow.Author.Tests.{not-true, not-false}
+use Rattle.commands.specs.Cause.{causeOf}
+use Rattle.commands.proofs.cause.cause.Statement.{statement}
+use Rattle.commands.proofs.cause.cause.Tie as tie
+
+-- of a test whose result is r
+fails : {r s : Bool} → r ≡ s → not r ≡ true → s ≡ false
+fails e t = sym e ∙ not-true _ t
+
+holds : {r s : Bool} → r ≡ s → not r ≡ false → s ≡ true
+holds e t = sym e ∙ not-false _ t
+
+returns : tie.Need-returns
+unfolding causeOf
+returns c =
+    simp (fails (c .before .in-order .ensures) (c .if1 .taken))
+
+returns-2 : tie.Need-returns-2
+unfolding causeOf
+returns-2 c =
+    let order = c .before .before in
+    simp (
+      holds (order .before .in-order .ensures) (order .if1 .left),
+      fails (c .before .ranges-hold .ensures) (c .if2 .taken),
+    )
+
+returns-3 : tie.Need-returns-3
+unfolding causeOf
+returns-3 c =
+    let ranges = c .before .before in
+    let order = ranges .before .before in
+    simp (
+      holds (order .before .in-order .ensures) (order .if1 .left),
+      holds (ranges .before .ranges-hold .ensures) (ranges .if2 .left),
+      fails (c .before .edges-hold .ensures) (c .if3 .taken),
+    )
+
+returns-4 : tie.Need-returns-4
+unfolding causeOf
+returns-4 c =
+    let edges = c .before .before in
+    let ranges = edges .before .before in
+    let order = ranges .before .before in
+    simp (
+      holds (order .before .in-order .ensures) (order .if1 .left),
+      holds (ranges .before .ranges-hold .ensures) (ranges .if2 .left),
+      holds (edges .before .edges-hold .ensures) (edges .if3 .left),
+      fails (c .before .separate .ensures) (c .if4 .taken),
+    )
+
+returns-5 : tie.Need-returns-5
+unfolding causeOf
+returns-5 c =
+    let apart = c .before .before in
+    let edges = apart .before .before in
+    let ranges = edges .before .before in
+    let order = ranges .before .before in
+    simp (
+      holds (order .before .in-order .ensures) (order .if1 .left),
+      holds (ranges .before .ranges-hold .ensures) (ranges .if2 .left),
+      holds (edges .before .edges-hold .ensures) (edges .if3 .left),
+      holds (apart .before .separate .ensures) (apart .if4 .left),
+      fails (c .before .inside .ensures) (c .if5 .taken),
+    )
+
+returns-6 : tie.Need-returns-6
+unfolding causeOf
+returns-6 c =
+    let apart = c .before .before in
+    let edges = apart .before .before in
+    let ranges = edges .before .before in
+    let order = ranges .before .before in
+    simp (
+      holds (order .before .in-order .ensures) (order .if1 .left),
+      holds (ranges .before .ranges-hold .ensures) (ranges .if2 .left),
+      holds (edges .before .edges-hold .ensures) (edges .if3 .left),
+      holds (apart .before .separate .ensures) (apart .if4 .left),
+      holds (c .before .inside .ensures) (c .if5 .left),
+    )
+
+pub cause-spec : {M : Type 1} → statement M
+cause-spec =
+    tie.close
+    (tie.spec
+    (search needs) returns
+    (search needs) returns-2
+    (search needs) returns-3
+    (search needs) returns-4
+    (search needs) returns-5
+    returns-6)

@@ -1,0 +1,88 @@
+-- Why a command is refused after those before it: document 01's causes 3 to 7, in its table's order ("The ticket", "Where a ticket stops").
+-- Assumes nothing.
+use Prim.Native.Nat.{ℕ, _+_}
+use mathlib.Core.Bool.{Bool, true, not, _&&_, _||_}
+use mathlib.Core.List.{List, [], _∷_}
+use lib.Dec.{eqb, ltb, leb}
+use Rattle.commands.specs.Rows.{Operand, inRange, rowOf}
+use Rattle.commands.specs.Bytes.{pick, byteOf, operandsOf}
+use Rattle.commands.specs.declared.command.Window.{Window}
+use Rattle.commands.specs.declared.command.Kind.{Kind}
+use Rattle.commands.specs.declared.command.Kind.the-variants.{Code, Data, Stack}
+use Rattle.commands.specs.declared.command.Command.{Command}
+use Rattle.commands.specs.declared.command.Command.the-variants as Command
+use Rattle.commands.specs.declared.prefix.Header.{Header}
+use Rattle.commands.specs.declared.prefix.Prefix.{Prefix}
+
+-- how many of $01 to $04 come before a window
+abbrev pub turnOf : Kind → ℕ
+turnOf Code = 0
+turnOf Data = 1
+turnOf Stack = 2
+
+-- 3: $01 to $04 once each, in that order, before all others; marks in rising address, none equal; a name at once after its mark, same address, at
+-- most one; nothing is read after the end
+abbrev pub inOrder : Prefix → Command → Bool
+inOrder p (Command.Window k w) = eqb (p .stage) (turnOf k)
+inOrder p (Command.Entry a l) = eqb (p .stage) 3
+inOrder p (Command.Mark a c) = eqb (p .stage) 4 && (eqb (p .count) 0 || ltb (p .last) a)
+inOrder p (Command.Name a t) = eqb (p .stage) 4 && (p .nameable && eqb a (p .last))
+inOrder p Command.End = eqb (p .stage) 4
+
+-- 4: each operand is in its range
+abbrev pub allInRange : List Operand → List ℕ → Bool
+allInRange [] vs = true
+allInRange (o ∷ os) [] = true
+allInRange (o ∷ os) (v ∷ vs) = inRange o v && allInRange os vs
+
+unfoldable pub rangesHold : Command → Bool
+rangesHold c = allInRange (rowOf (byteOf c)) (operandsOf c)
+
+-- the first address past a window, at most 65,536
+abbrev pub pastOf : Window → ℕ
+pastOf w = w .start + w .length
+
+-- 5: no window runs past $FFFF; code and stack do not start at $0000
+abbrev pub startHolds : Kind → ℕ → Bool
+startHolds Code s = not (eqb s 0)
+startHolds Data s = true
+startHolds Stack s = not (eqb s 0)
+
+abbrev pub edgesHold : Command → Bool
+edgesHold (Command.Window k w) = leb (pastOf w) 65536 && startHolds k (w .start)
+edgesHold (Command.Entry a l) = true
+edgesHold (Command.Mark a c) = true
+edgesHold (Command.Name a t) = true
+edgesHold Command.End = true
+
+-- two windows share no address: one is empty, or one ends before the other starts
+abbrev pub apart : Window → Window → Bool
+apart v w =
+    (eqb (v .length) 0 || eqb (w .length) 0) || (leb (pastOf v) (w .start) || leb (pastOf w) (v .start))
+
+-- 6: a window shares no address with an earlier one; those still to come have length 0
+abbrev pub separate : Header → Command → Bool
+separate h (Command.Window k w) = apart (h .code) w && (apart (h .«data») w && apart (h .stack) w)
+separate h (Command.Entry a l) = true
+separate h (Command.Mark a c) = true
+separate h (Command.Name a t) = true
+separate h Command.End = true
+
+-- an address lies in a window
+abbrev pub holds : Window → ℕ → Bool
+holds w a = leb (w .start) a && ltb a (pastOf w)
+
+-- 7: a mark lies in the code window
+abbrev pub inside : Header → Command → Bool
+inside h (Command.Window k w) = true
+inside h (Command.Entry a l) = true
+inside h (Command.Mark a c) = holds (h .code) a
+inside h (Command.Name a t) = true
+inside h Command.End = true
+
+-- the first cause that applies, or 0
+unfoldable pub causeOf : Prefix → Command → ℕ
+causeOf p c =
+    pick (inOrder p c)
+    (pick (rangesHold c) (pick (edgesHold c) (pick (separate (p .header) c) (pick (inside (p .header) c) 0 7) 6) 5) 4)
+    3

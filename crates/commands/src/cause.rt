@@ -1,0 +1,178 @@
+// Document 01's causes 3 to 7, each as what must hold, and the first that does not.
+ghost use mathlib.Core.Path.{_≡_};
+ghost use Rattle.commands.specs.Rows.{between, printable};
+ghost use Rattle.commands.specs.Number.{digits};
+ghost use Rattle.commands.specs.Cause.{turnOf, inOrder, rangesHold, pastOf, startHolds, edgesHold, apart, separate, inside, causeOf};
+use crate::command::Claim;
+use crate::command::Command;
+use crate::command::Kind;
+use crate::command::Window;
+use crate::prefix::Header;
+use crate::prefix::Prefix;
+
+// How many of $01 to $04 come before a window.
+fn turn_of(k: Kind) -> u8
+    ensures { λ r. ⌜ r ≡ turnOf k ⌝ }
+{
+    match k {
+        Kind::Code => 0,
+        Kind::Data => 1,
+        Kind::Stack => 2,
+    }
+}
+
+fn in_order(p: Prefix, c: Command) -> bool
+    ensures { λ r. ⌜ r ≡ inOrder p c ⌝ }
+{
+    match c {
+        Command::Window(k, _) => p.stage == turn_of(k),
+        Command::Entry(_, _) => p.stage == 3,
+        Command::Mark(a, _) => (p.stage == 4) & ((p.count == 0) | (p.last < a)),
+        Command::Name(a, _) => (p.stage == 4) & (p.nameable & (a == p.last)),
+        Command::End => p.stage == 4,
+    }
+}
+
+fn between(least: u32, most: u32, v: u32) -> bool
+    ensures { λ r. ⌜ r ≡ between least most v ⌝ }
+{
+    (least <= v) & (v <= most)
+}
+
+// Each of the eight bytes is $20 to $7E.
+fn printable(text: u64) -> bool
+    ensures { λ r. ⌜ r ≡ printable (digits 8 text) ⌝ }
+{
+    let mut t = text;
+    let mut left: u8 = 8;
+    while 0 < left {
+        let b = (t % 256) as u32;
+        if !between(0x20, 0x7e, b) {
+            return false;
+        }
+        t = t / 256;
+        left -= 1;
+    }
+    true
+}
+
+fn window_holds(k: Kind, w: Window) -> bool
+    ensures { λ r. ⌜ r ≡ rangesHold (Command.Window k w) ⌝ }
+{
+    let n = w.length as u32;
+    match k {
+        Kind::Code => between(1, 4096, n),
+        Kind::Data => between(0, 8192, n),
+        Kind::Stack => between(2, 1024, n),
+    }
+}
+
+fn claim_holds(k: Claim) -> bool
+    ensures { λ r. ⌜ r ≡ rangesHold (Command.Mark 0 k) ⌝ }
+{
+    let cost = k.cost;
+    let depth = k.depth;
+    let need = k.need;
+    between(0, 2000000, cost.0)
+        & (between(0, 1022, depth.0 as u32) & between(0, 1022, need.0 as u32))
+}
+
+fn ranges_hold(c: Command) -> bool
+    ensures { λ r. ⌜ r ≡ rangesHold c ⌝ }
+{
+    match c {
+        Command::Window(k, w) => window_holds(k, w),
+        Command::Entry(_, l) => between(1, 2000000, l.0),
+        Command::Mark(_, k) => claim_holds(k),
+        Command::Name(_, t) => printable(t),
+        Command::End => true,
+    }
+}
+
+// The first address past a window. It can be 65,536.
+fn past(w: Window) -> u32
+    ensures { λ r. ⌜ r ≡ pastOf w ⌝ }
+{
+    (w.start as u32) + (w.length as u32)
+}
+
+fn start_holds(k: Kind, start: u16) -> bool
+    ensures { λ r. ⌜ r ≡ startHolds k start ⌝ }
+{
+    match k {
+        Kind::Code => start != 0,
+        Kind::Data => true,
+        Kind::Stack => start != 0,
+    }
+}
+
+fn edges_hold(c: Command) -> bool
+    ensures { λ r. ⌜ r ≡ edgesHold c ⌝ }
+{
+    match c {
+        Command::Window(k, w) => (past(w) <= 65536) & start_holds(k, w.start),
+        Command::Entry(_, _) => true,
+        Command::Mark(_, _) => true,
+        Command::Name(_, _) => true,
+        Command::End => true,
+    }
+}
+
+// No address is in both windows.
+fn apart(v: Window, w: Window) -> bool
+    ensures { λ r. ⌜ r ≡ apart v w ⌝ }
+{
+    ((v.length == 0) | (w.length == 0))
+        | ((past(v) <= (w.start as u32)) | (past(w) <= (v.start as u32)))
+}
+
+fn separate(h: Header, c: Command) -> bool
+    ensures { λ r. ⌜ r ≡ separate h c ⌝ }
+{
+    let code = h.code;
+    let data = h.data;
+    let stack = h.stack;
+    match c {
+        Command::Window(_, w) => apart(code, w) & (apart(data, w) & apart(stack, w)),
+        Command::Entry(_, _) => true,
+        Command::Mark(_, _) => true,
+        Command::Name(_, _) => true,
+        Command::End => true,
+    }
+}
+
+fn inside(h: Header, c: Command) -> bool
+    ensures { λ r. ⌜ r ≡ inside h c ⌝ }
+{
+    let code = h.code;
+    match c {
+        Command::Window(_, _) => true,
+        Command::Entry(_, _) => true,
+        Command::Mark(a, _) => (code.start <= a) & ((a as u32) < past(code)),
+        Command::Name(_, _) => true,
+        Command::End => true,
+    }
+}
+
+// The first cause that applies, or 0.
+pub fn cause(p: Prefix, c: Command) -> u8
+    ensures { λ r. ⌜ r ≡ causeOf p c ⌝ }
+{
+    let h = p.header;
+    if !in_order(p, c) {
+        return 3;
+    }
+    if !ranges_hold(c) {
+        return 4;
+    }
+    if !edges_hold(c) {
+        return 5;
+    }
+    if !separate(h, c) {
+        return 6;
+    }
+    if !inside(h, c) {
+        return 7;
+    }
+    0
+}

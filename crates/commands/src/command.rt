@@ -1,0 +1,44 @@
+// The commands of a ticket (document 01, "The ticket").
+ghost use mathlib.Core.Path.{_≡_};
+use registers::Cycles;
+use registers::StackBytes;
+
+// The addresses from start on; one of length 0 holds none.
+pub struct Window {
+    pub start: u16,
+    pub length: u16,
+}
+
+pub enum Kind {
+    Code,
+    Data,
+    Stack,
+}
+
+// What a mark says of its address: document 01's cost, depth and need.
+pub struct Claim {
+    pub cost: Cycles,
+    pub depth: StackBytes,
+    pub need: StackBytes,
+}
+
+// An entry has its address and the cycle limit; a name its address and its text, eight bytes as one number.
+pub enum Command {
+    Window(Kind, Window),
+    Entry(u16, Cycles),
+    Mark(u16, Claim),
+    Name(u16, u64),
+    End,
+}
+
+// Document 01's number of the cause, and its place: for a command, the offset of its first byte.
+pub struct Refusal {
+    pub number: u8,
+    pub place: u32,
+}
+
+pub fn refuse(number: u8, place: u32) -> Refusal
+    ensures { λ r. ⌜ r ≡ record { number = number; place = place } ⌝ }
+{
+    Refusal { number, place }
+}

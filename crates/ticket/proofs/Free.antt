@@ -1,0 +1,37 @@
+-- Commands one after another with no cause against any: those that the writer's checks admit.
+-- Assumes nothing.
+use mathlib.Core.Path.{_≡_, refl, sym, _∙_}
+use mathlib.Core.Bool.{Bool, true, false}
+use mathlib.Core.List.{List, [], _∷_}
+use lib.Dec.{eqb}
+use borrow.Author.Tests.{eqb-true, eq-eqb}
+use Rattle.commands.specs.declared.command.Command.{Command}
+use Rattle.commands.specs.declared.command.Refusal.{Refusal}
+use Rattle.commands.specs.declared.prefix.Prefix.{Prefix}
+use Rattle.commands.specs.declared.admit.Admitted.the-variants.{Refused, Next}
+use Rattle.commands.specs.Bytes.{pick}
+use Rattle.commands.specs.Prefix.{afterOf}
+use Rattle.commands.specs.Cause.{causeOf}
+use Rattle.commands.specs.Admit.{admitOf}
+use Rattle.ticket.specs.Write.{allThen}
+use Rattle.ticket.proofs.ReadWritten.{refused-stays}
+use Rattle.ticket.proofs.Checks.{not-next}
+
+abbrev pub Free : Prefix → List Command → Type 0
+Free p [] = Unit
+Free p (c ∷ cs) = (causeOf p c ≡ 0) × Free (afterOf p c) cs
+
+pub free-admitted : (p : Prefix) (cs : List Command) → Free p cs → (q : Prefix) × (allThen (Next p) cs ≡ Next q)
+unfolding admitOf
+free-admitted p [] f = (p, refl)
+free-admitted p (c ∷ cs) f = rw (eq-eqb _ _ (f .0)) (free-admitted (afterOf p c) cs (f .1))
+
+module _ (p q : Prefix) (c : Command) (cs : List Command) (rest : allThen (Next (afterOf p c)) cs ≡ Next q → Free (afterOf p c) cs) where
+  by-cause : (r : Refusal) (b : Bool) → eqb (causeOf p c) 0 ≡ b → allThen (pick b (Next (afterOf p c)) (Refused r)) cs ≡ Next q → Free p (c ∷ cs)
+  by-cause r true e n = (eqb-true _ _ e, rest n)
+  by-cause r false e n = absurd (not-next (sym (refused-stays r cs) ∙ n))
+
+pub admitted-free : (p q : Prefix) (cs : List Command) → allThen (Next p) cs ≡ Next q → Free p cs
+unfolding admitOf
+admitted-free p q [] e = tt
+admitted-free p q (c ∷ cs) e = by-cause p q c cs (admitted-free (afterOf p c) q cs) _ _ refl e

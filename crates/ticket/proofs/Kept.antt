@@ -1,0 +1,50 @@
+-- What the commands of a ticket leave, if each is admitted: the ticket's header and marks.
+-- Assumes nothing.
+use Prim.Native.Nat.{ℕ}
+use mathlib.Core.Path.{_≡_, refl, _∙_}
+use mathlib.Core.List.{List, [], _∷_, _++_, append-nil, append-assoc}
+use Rattle.commands.specs.declared.command.Claim.{Claim}
+use Rattle.commands.specs.declared.command.Command.{Command}
+use Rattle.commands.specs.declared.command.Command.the-variants as Command
+use Rattle.commands.specs.declared.prefix.Header.{Header}
+use Rattle.commands.specs.declared.prefix.Prefix.{Prefix}
+use Rattle.commands.specs.Prefix.{blankHeader, withWindow, withEntry, afterOf}
+use Rattle.ticket.specs.declared.fields.Name.{Name}
+use Rattle.ticket.specs.declared.fields.Name.the-variants.{Absent, Text}
+use Rattle.ticket.specs.declared.fields.Mark.{Mark}
+use Rattle.ticket.specs.Fields.{Fields, unnamed, marksWith, inFileOrder}
+use Rattle.ticket.specs.Write.{nameCommands, markCommands, commandsOf}
+
+abbrev pub headerWith : Header → Command → Header
+headerWith h (Command.Window k w) = withWindow k h w
+headerWith h (Command.Entry a l) = withEntry h a l
+headerWith h (Command.Mark a k) = h
+headerWith h (Command.Name a t) = h
+headerWith h Command.End = h
+
+pub header-after : (p : Prefix) (c : Command) → afterOf p c .header ≡ headerWith (p .header) c
+unfolding afterOf
+header-after p (Command.Window k w) = refl
+header-after p (Command.Entry a l) = refl
+header-after p (Command.Mark a k) = refl
+header-after p (Command.Name a t) = refl
+header-after p Command.End = refl
+
+-- the fields after some commands, from the header and the marks, the latest first, before them
+abbrev pub keptOf : Header → List Mark → List Command → Fields
+keptOf h ms [] = record { header = h; marks = inFileOrder ms }
+keptOf h ms (c ∷ cs) = keptOf (headerWith h c) (marksWith ms c) cs
+
+kept-name : (h : Header) (ms : List Mark) (a : ℕ) (k : Claim) (n : Name) (cs ds : List Command) → keptOf h (unnamed a k ∷ ms) ((nameCommands a n ++ cs) ++ ds) ≡ keptOf h (record { address = a; claim = k; name = n } ∷ ms) (cs ++ ds)
+kept-name h ms a k Absent cs ds = refl
+kept-name h ms a k (Text t) cs ds = refl
+
+kept-marks : (h : Header) (ks ms : List Mark) → keptOf h ks (markCommands ms ++ (Command.End ∷ [])) ≡ record { header = h; marks = inFileOrder ks ++ ms }
+kept-marks h ks [] = rw append-nil
+kept-marks h ks (m ∷ ms) =
+    kept-name h ks (m .address) (m .claim) (m .name) (markCommands ms) (Command.End ∷ [])
+    ∙ (kept-marks h (m ∷ ks) ms ∙ rw append-assoc)
+
+pub kept : (f : Fields) → keptOf blankHeader [] (commandsOf f) ≡ f
+unfolding commandsOf
+kept f = kept-marks (f .header) [] (f .marks)

@@ -1,0 +1,117 @@
+-- Where the reading of some bytes stands: the marks in the array, the commands of the prefix behind it, and the turns that are left.
+-- Assumes nothing.
+use Prim.Native.Nat.{ℕ, zero, suc, _+_, _-_, _≤_, _<_}
+use native.Mathlib.Numerals.{unary-clauses}
+use native.Mathlib.Omega.{arith}
+use mathlib.Core.Path.{_≡_, refl, _∙_}
+use mathlib.Core.List.{List, []}
+use lib.Dec.{eqb}
+use lib.ListN.{length, getD, set, drop, replicate, length-drop, drop-of-length-le}
+use lib.Seq.{drop-drop, drop-cons}
+use borrow.Author.Tests.{ne-eqb}
+use Rattle.commands.specs.declared.command.Command.{Command}
+use Rattle.commands.specs.declared.command.Refusal.{Refusal}
+use Rattle.commands.specs.declared.decode.Decoded.the-variants.{Found}
+use Rattle.commands.specs.declared.prefix.Prefix.{Prefix}
+use Rattle.commands.specs.Bytes.{decodeOf, widthOf}
+use Rattle.commands.specs.Cause.{causeOf}
+use Rattle.commands.specs.Prefix.{startOf, afterOf}
+use Rattle.commands.proofs.Causes.{allowed}
+use Rattle.commands.proofs.Coding.{decode-room, width-positive, after-at}
+use Rattle.commands.proofs.Sound.{bounds}
+use Rattle.ticket.specs.declared.answer.Answer.the-variants as Answer
+use Rattle.ticket.specs.declared.fields.Mark.{Mark}
+use Rattle.ticket.specs.declared.reader.Turn.the-variants as Turn
+use Rattle.ticket.specs.Fields.{refused, blankMark, enteredOf, marksWith, inFileOrder, ticketOf, readingOf}
+use Rattle.ticket.specs.Read.{refusal, turnOf, endOf, onward, ifEnded, readFrom, readOf}
+use Rattle.ticket.proofs.Slots.{filled, entered}
+use Rattle.ticket.proofs.SoFar.{Consistent, consistent-start, consistent-next, length-ordered}
+use Rattle.ticket.proofs.Turned.{turned}
+
+pub record Reached (s : List ℕ) (array : List Mark) (p : Prefix) : Type 0 where
+  pub marks : List Mark  -- the latest first
+  pub left : ℕ
+  pub kept : Consistent p marks
+  pub inside : p .at ≤ length s
+  pub enough : length s < p .at + left
+  pub rest : readOf s ≡ readFrom left p marks (drop (p .at) s)
+  pub held : array ≡ filled 4096 (inFileOrder marks)
+
+pub reached-start : (s : List ℕ) → Reached s (replicate 4096 blankMark) startOf
+unfolding readOf filled
+reached-start s =
+    record {
+      marks = [];
+      left = suc (length s);
+      kept = consistent-start;
+      inside = omega arith;
+      enough = omega arith;
+      rest = refl;
+      held = refl;
+    }
+
+one-turn : (n : ℕ) (p : Prefix) (ms : List Mark) (s : List ℕ) → 0 < n → readFrom n p ms s ≡ ifEnded (eqb (p .stage) 5) p ms s (readFrom (n - 1))
+unfolding readFrom
+one-turn zero p ms s l = absurd (omega arith)
+one-turn (suc n) p ms s l = simp unary-clauses
+
+module _ (s : List ℕ) (array : List Mark) (p : Prefix) (h : Reached s array p) where
+  turn : readOf s ≡ ifEnded (eqb (p .stage) 5) p (h .marks) (drop (p .at) s) (readFrom (h .left - 1))
+  turn = h .rest ∙ one-turn (h .left) p (h .marks) (drop (p .at) s) (omega arith)
+
+  -- before the end: one turn more
+  module _ (go : p .stage ≡ 5 → ⊥) where
+    read-on : readOf s ≡ onward (turnOf (drop (p .at) s) p) (h .marks) (drop (p .at) s) (readFrom (h .left - 1))
+    read-on = simp (ne-eqb (p .stage) 5 go) at turn
+
+    pub reading-refused : (r : Refusal) → turnOf (drop (p .at) s) p ≡ Turn.Refused r → readOf s ≡ refused r
+    reading-refused r e = rw e at read-on
+
+    module _ (c : Command) (found : decodeOf (drop (p .at) s) ≡ Found c) where
+      moved : (p .at < afterOf p c .at) × (afterOf p c .at ≤ length s)
+      moved =
+          omega (
+            arith,
+            after-at p c,
+            decode-room (drop (p .at) s) c found,
+            length-drop (p .at) s,
+            width-positive c,
+          )
+
+      reached-after : (d : Mark) → causeOf p c ≡ 0 → turnOf (drop (p .at) s) p ≡ Turn.Next (afterOf p c) c → Reached s (set array (afterOf p c .count - 1) (enteredOf (getD array (afterOf p c .count - 1) d) c)) (afterOf p c)
+      reached-after d free e =
+          let next = consistent-next p (h .marks) (h .kept) c free in
+          let on : drop (widthOf c) (drop (p .at) s) ≡ drop (afterOf p c .at) s = rw (after-at p c) (drop-drop (widthOf c) (p .at) s) in
+          record {
+            marks = marksWith (h .marks) c;
+            left = h .left - 1;
+            kept = next;
+            inside = moved .1;
+            enough = omega (arith, moved);
+            rest = rw (e, on) at read-on;
+            held = rw (h .held) (entered 4096 d p (h .marks) (h .kept) c (allowed p c free .ordered) (bounds (next .sound) .0));
+          }
+
+    module _ (q : Prefix) (c : Command) (e : turnOf (drop (p .at) s) p ≡ Turn.Next q c) where
+      pub reached-next : (d : Mark) → Reached s (set array (q .count - 1) (enteredOf (getD array (q .count - 1) d) c)) q
+      reached-next d =
+          let t = turned (drop (p .at) s) p q c e in
+          rw (t .next) (reached-after c (t .found) d (t .free) (rw (t .next) at e))
+
+      pub next-bounds : (p .at < q .at) × (q .at ≤ length s) × (q .count ≤ 4096)
+      next-bounds =
+          let t = turned (drop (p .at) s) p q c e in
+          let n = reached-next blankMark in
+          (rw (t .next) (moved c (t .found) .0), n .inside, bounds (n .kept .sound) .0)
+
+  -- after the end
+  module _ (end : p .stage ≡ 5) where
+    ended : readOf s ≡ endOf p (h .marks) (drop (p .at) s)
+    ended = simp end at turn
+
+    pub reading-long : p .at < length s → readOf s ≡ refused (refusal 8 (p .at))
+    reading-long l = rw (drop-cons s (p .at) 0) at ended
+
+    pub reading-done : length s ≤ p .at → record { answer = Answer.Read; ticket = record { header = p .header; count = p .count; marks = array } } ≡ readingOf (readOf s)
+    unfolding ticketOf filled
+    reading-done l = rw (rw (drop-of-length-le s l) at ended, h .held, length-ordered, h .kept .counted)

@@ -1,0 +1,66 @@
+-- Reading a ticket's bytes gives its fields, or the refusal that the writer's checks give, with the same number and place.
+-- Assumes nothing.
+use Prim.Native.Nat.{ℕ, zero, suc, _<_}
+use mathlib.Core.Path.{_≡_, refl, ap, _∙_}
+use mathlib.Core.Bool.{Bool, true, false}
+use mathlib.Core.List.{List, [], _∷_, _++_}
+use native.Mathlib.Omega.{arith}
+use lib.Dec.{eqb}
+use lib.ListN.{length, length-append}
+use Rattle.commands.specs.declared.command.Command.{Command}
+use Rattle.commands.specs.declared.command.Command.the-variants as Command
+use Rattle.commands.specs.declared.command.Refusal.{Refusal}
+use Rattle.commands.specs.declared.prefix.Prefix.{Prefix}
+use Rattle.commands.specs.declared.admit.Admitted.the-variants.{Refused, Next}
+use Rattle.commands.specs.Bytes.{encodeOf}
+use Rattle.commands.specs.Prefix.{startOf}
+use Rattle.commands.proofs.Coding.{length-encode, width-positive}
+use Rattle.ticket.specs.declared.fields.Name.{Name}
+use Rattle.ticket.specs.declared.fields.Name.the-variants.{Absent, Text}
+use Rattle.ticket.specs.declared.fields.Mark.{Mark}
+use Rattle.ticket.specs.Fields.{Fields, marksWith}
+use Rattle.ticket.specs.Read.{readFrom, readOf}
+use Rattle.ticket.specs.Write.{nameCommands, markCommands, commandsOf, encodeAll, bytesOf, allThen, checkOf}
+use Rattle.ticket.specs.RoundTrip.{AllFit, none, more, FitsFields, answered}
+use Rattle.ticket.proofs.Stage.{ends, stage-after}
+use Rattle.ticket.proofs.Step.{step}
+use Rattle.ticket.proofs.Kept.{header-after, headerWith, keptOf, kept}
+
+-- the commands left, none after the end (true), or before it (false): the last is the end, and no other is
+data Ended : Bool → List Command → Type 0 where
+  after : Ended true []
+  before : {c : Command} {cs : List Command} → Ended (ends c) cs → Ended false (c ∷ cs)
+
+ended-name : (a : ℕ) (n : Name) (cs ds : List Command) → Ended false (cs ++ ds) → Ended false ((nameCommands a n ++ cs) ++ ds)
+ended-name a Absent cs ds e = e
+ended-name a (Text t) cs ds e = before e
+
+ended-marks : (ms : List Mark) → Ended false (markCommands ms ++ (Command.End ∷ []))
+ended-marks [] = before after
+ended-marks (m ∷ ms) = before (ended-name (m .address) (m .name) (markCommands ms) _ (ended-marks ms))
+
+ended : (f : Fields) → Ended false (commandsOf f)
+unfolding commandsOf
+ended f = before (before (before (before (ended-marks (f .marks)))))
+
+-- what comes after a refused command changes nothing
+pub refused-stays : (r : Refusal) (cs : List Command) → allThen (Refused r) cs ≡ Refused r
+refused-stays r [] = refl
+refused-stays r (c ∷ cs) = refused-stays r cs
+
+shorter : (c : Command) (s : List ℕ) (n : ℕ) → length (encodeOf c ++ s) < suc n → length s < n
+shorter c s n l = omega (arith, length-append (encodeOf c) s, length-encode c, width-positive c)
+
+-- every command has a byte or more, so more turns than bytes are enough
+read-all : {b : Bool} {cs : List Command} (n : ℕ) (p : Prefix) (ms : List Mark) → Ended b cs → AllFit cs → eqb (p .stage) 5 ≡ b → length (encodeAll cs) < n → readFrom n p ms (encodeAll cs) ≡ answered (allThen (Next p) cs) (keptOf (p .header) ms cs)
+unfolding readFrom
+read-all zero p ms d fits e l = absurd (omega arith)
+read-all (suc n) p ms after none e l = rw e
+read-all (suc n) p ms (before {c} {cs} d) (more fit fits) e l =
+    step n p ms c (encodeAll cs) e fit (λ a. answered (allThen a cs) (keptOf (headerWith (p .header) c) (marksWith ms c) cs))
+    (λ r. rw refused-stays) (λ h. rw (← header-after p c) (read-all n _ _ d fits (stage-after p c h) (shorter c _ n l)))
+
+pub read-written : (f : Fields) → FitsFields f → readOf (bytesOf f) ≡ answered (checkOf f) f
+unfolding readOf bytesOf checkOf
+read-written f fits =
+    read-all _ startOf [] (ended f) fits refl (omega arith) ∙ ap (answered (checkOf f)) (kept f)

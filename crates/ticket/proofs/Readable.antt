@@ -1,0 +1,147 @@
+-- The commands of a ticket have no cause against any where its fields are as the rules say, and only there.
+-- Assumes nothing.
+use Prim.Native.Nat.{ℕ, _+_, _≤_, _<_}
+use mathlib.Core.Path.{_≡_, refl}
+use mathlib.Core.Logic.{_↔_}
+use mathlib.Core.Bool.{true, false}
+use mathlib.Core.List.{List, [], _∷_, _++_}
+use native.Mathlib.Omega.{arith}
+use Rattle.commands.specs.declared.command.Claim.{Claim}
+use Rattle.commands.specs.declared.command.Command.{Command}
+use Rattle.commands.specs.declared.command.Command.the-variants as Command
+use Rattle.commands.specs.declared.prefix.Header.{Header}
+use Rattle.commands.specs.declared.prefix.Prefix.{Prefix}
+use Rattle.commands.specs.declared.admit.Admitted.the-variants.{Next}
+use Rattle.commands.specs.Number.{digits}
+use Rattle.commands.specs.Prefix.{startOf, markedOf, afterOf}
+use Rattle.commands.specs.Cause.{inOrder, rangesHold, edgesHold, separate, inside, causeOf}
+use Rattle.commands.proofs.Causes.{both, allowed, allow}
+use Rattle.ticket.specs.declared.fields.Name.{Name}
+use Rattle.ticket.specs.declared.fields.Name.the-variants.{Absent, Text}
+use Rattle.ticket.specs.declared.fields.Mark.{Mark}
+use Rattle.ticket.specs.Fields.{Fields}
+use Rattle.ticket.specs.Write.{headerCommands, nameCommands, markCommands, commandsOf, checkOf}
+use Rattle.ticket.specs.RoundTrip.{Rising}
+use Rattle.ticket.specs.Rules.{Between, Every, In, HeaderRules, ClaimRules, NameRule, absent, text, MarkRules, Readable}
+use Rattle.ticket.proofs.Says.{true-says, and-says, leb-says, ltb-says, eqb-says, positive-says, after-says, printable-says, apart-says}
+use Rattle.ticket.proofs.Free.{Free, free-admitted, admitted-free}
+
+ruleset tests = (true-says, and-says, leb-says, ltb-says, eqb-says, positive-says, after-says, apart-says)
+
+cause-says : (p : Prefix) (c : Command) → (causeOf p c ≡ 0) ↔ ((inOrder p c ≡ true) × (rangesHold c ≡ true) × (edgesHold c ≡ true) × (separate (p .header) c ≡ true) × (inside (p .header) c ≡ true))
+cause-says p c = (
+  λ e. let a = allowed p c e in (a .ordered, a .ranged, a .edged, a .separated, a .placed),
+  λ t. allow p c (record { ordered = t .0; ranged = t .1; edged = t .2; separated = t .3; placed = t .4 }),
+)
+
+-- ---- the header
+
+-- after the four commands of a header, of 5, 5, 5 and 7 bytes
+abbrev headed : Header → Prefix
+headed h = record { at = 22; stage = 4; header = h; count = 0; last = 0; nameable = false }
+
+header-says : (h : Header) (cs : List Command) → Free startOf (headerCommands h ++ cs) ↔ (HeaderRules h × Free (headed h) cs)
+unfolding afterOf rangesHold
+header-says h cs = simp (cause-says, tests) (λ f. (search arith, f .1 .1 .1 .1), λ r. search arith)
+
+-- ---- one mark and its name, after a header and perhaps other marks
+
+module _ (p : Prefix) (e : p .stage ≡ 4) where
+  mark-says : (a : ℕ) (k : Claim) → (causeOf p (Command.Mark a k) ≡ 0) ↔ ((1 ≤ p .count → p .last < a) × ClaimRules k × In (p .header .code) a)
+  unfolding rangesHold
+  mark-says a k = simp (cause-says, tests) (λ t. search arith, λ r. search arith)
+
+  text-says : (a t : ℕ) → (causeOf (markedOf p a) (Command.Name a t) ≡ 0) ↔ Every (Between 0x20 0x7e) (digits 8 t)
+  unfolding rangesHold
+  text-says a t = (
+    λ c. printable-says (digits 8 t) .0 (both _ true (allowed (markedOf p a) (Command.Name a t) c .ranged) .0),
+    λ r.
+        allow (markedOf p a) (Command.Name a t)
+        (record {
+          ordered = simp tests (omega arith);
+          ranged = rw (printable-says (digits 8 t) .1 r);
+          edged = refl;
+          separated = refl;
+          placed = refl;
+        }),
+  )
+
+  end-free : causeOf p Command.End ≡ 0
+  unfolding rangesHold
+  end-free = simp (cause-says, tests) (search)
+
+text-of : {t : ℕ} → NameRule (Text t) → Every (Between 0x20 0x7e) (digits 8 t)
+text-of (text r) = r
+
+-- what comes after a mark and its name depends on the header, how many marks there are and the last address
+module _ (p : Prefix) (e : p .stage ≡ 4) (a : ℕ) (cs ds : List Command) (R : Header → ℕ → ℕ → Type 0) (rest : (q : Prefix) → q .stage ≡ 4 → Free q (cs ++ ds) ↔ R (q .header) (q .count) (q .last)) where
+  name-says : (n : Name) → Free (markedOf p a) ((nameCommands a n ++ cs) ++ ds) ↔ (NameRule n × R (p .header) (p .count + 1) a)
+  unfolding afterOf
+  name-says Absent = (λ f. (absent, rest _ e .0 f), λ r. rest _ e .1 (r .1))
+  name-says (Text t) = (
+    λ f. (text (text-says p e a t .0 (f .0)), rest _ e .0 (f .1)),
+    λ r. (text-says p e a t .1 (text-of (r .0)), rest _ e .1 (r .1)),
+  )
+
+-- ---- the marks
+
+first : {h : Header} {m : Mark} {ms : List Mark} → Every (MarkRules h) (m ∷ ms) → MarkRules h m × Every (MarkRules h) ms
+first (Every.more r s) = (r, s)
+
+-- an address is under the first of some marks
+abbrev Under : ℕ → List Mark → Type 0
+Under l [] = Unit
+Under l (m ∷ ms) = l < m .address
+
+rising-more : {m n : Mark} {ms : List Mark} → Rising (m ∷ n ∷ ms) → (m .address < n .address) × Rising (n ∷ ms)
+rising-more (Rising.more l r) = (l, r)
+
+rising-says : (m : Mark) (ms : List Mark) → Rising (m ∷ ms) ↔ (Under (m .address) ms × Rising ms)
+rising-says m [] = (λ r. (tt, Rising.none), λ r. Rising.one)
+rising-says m (n ∷ ms) = (rising-more, λ r. Rising.more (r .0) (r .1))
+
+-- of the marks that come after n others, the last at l
+abbrev Marked : List Mark → Header → ℕ → ℕ → Type 0
+Marked ms h n l = Every (MarkRules h) ms × (1 ≤ n → Under l ms) × Rising ms
+
+marks-says : (ms : List Mark) (p : Prefix) → p .stage ≡ 4 → Free p (markCommands ms ++ (Command.End ∷ [])) ↔ Marked ms (p .header) (p .count) (p .last)
+unfolding afterOf
+marks-says [] p e = (λ f. (Every.none, λ o. tt, Rising.none), λ r. (end-free p e, tt))
+marks-says (m ∷ ms) p e =
+    let mark = mark-says p e (m .address) (m .claim) in
+    let name = name-says p e (m .address) (markCommands ms) (Command.End ∷ []) (Marked ms) (marks-says ms) (m .name) in
+    let rise = rising-says m ms in (
+      λ f.
+          let k = mark .0 (f .0) in
+          let r = name .0 (f .1) in (
+            Every.more (record { claimed = k .1; inside = k .2; named = r .0 }) (r .1 .0),
+            k .0,
+            rise .1 (r .1 .1 (omega arith), r .1 .2),
+          ),
+      λ r.
+          let k = first (r .0) in
+          let s = rise .0 (r .2) in
+          (mark .1 (r .1, k .0 .claimed, k .0 .inside), name .1 (k .0 .named, (k .1, λ o. s .0, s .1))),
+    )
+
+-- ---- the ticket
+
+readable-says : (f : Fields) → Free startOf (commandsOf f) ↔ Readable f
+unfolding commandsOf
+readable-says f =
+    let head = header-says (f .header) (markCommands (f .marks) ++ (Command.End ∷ [])) in
+    let marks = marks-says (f .marks) (headed (f .header)) refl in (
+      λ c.
+          let h = head .0 c in
+          let m = marks .0 (h .1) in
+          record { header-rules = h .0; mark-rules = m .0; rising = m .2 },
+      λ r. head .1 (r .header-rules, marks .1 (r .mark-rules, λ o. absurd (omega arith), r .rising)),
+    )
+
+pub readable-checked : (f : Fields) → Readable f → (q : Prefix) × (checkOf f ≡ Next q)
+unfolding checkOf
+readable-checked f r = free-admitted startOf (commandsOf f) (readable-says f .1 r)
+
+pub checked-readable : (f : Fields) (q : Prefix) → checkOf f ≡ Next q → Readable f
+unfolding checkOf
+checked-readable f q e = readable-says f .0 (admitted-free startOf q (commandsOf f) e)

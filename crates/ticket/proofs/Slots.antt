@@ -1,0 +1,66 @@
+-- The array of marks while a ticket is read: the marks so far in file order, blank ones after them.
+-- Assumes nothing.
+use Prim.Native.Nat.{ℕ, suc, _+_, _-_, _≤_, _<_}
+use native.Mathlib.Omega.{arith}
+use mathlib.Core.Path.{_≡_}
+use mathlib.Core.Bool.{true}
+use mathlib.Core.List.{List, [], _∷_, _++_}
+use lib.Dec.{eqb}
+use lib.ListN.{length, getD, set, replicate, length-append}
+use lib.Seq.{append-snoc, set-append-seam, getD-append-seam, set-getD}
+use Rattle.commands.specs.declared.command.Command.{Command}
+use Rattle.commands.specs.declared.command.Command.the-variants as Command
+use Rattle.commands.specs.declared.prefix.Prefix.{Prefix}
+use Rattle.commands.specs.Cause.{inOrder}
+use Rattle.commands.specs.Prefix.{afterOf}
+use Rattle.commands.proofs.Causes.{both}
+use Rattle.ticket.specs.declared.fields.Mark.{Mark}
+use Rattle.ticket.specs.Fields.{blankMark, named, enteredOf, marksWith, inFileOrder}
+use Rattle.ticket.proofs.SoFar.{Consistent, length-ordered}
+
+-- some marks, filled up to n
+unfoldable pub filled : ℕ → List Mark → List Mark
+filled n ms = ms ++ replicate (n - length ms) blankMark
+
+module _ (n : ℕ) (ms : List Mark) (m : Mark) where
+  -- the next mark comes after the others
+  set-next : length ms < n → set (filled n ms) (length ms) m ≡ filled n (ms ++ (m ∷ []))
+  unfolding filled
+  set-next l =
+      let more : n - length ms ≡ suc (n - length (ms ++ (m ∷ []))) = omega (arith, length-append ms (m ∷ [])) in
+      rw (more, append-snoc ms m) (set-append-seam ms blankMark (replicate (n - length (ms ++ (m ∷ []))) blankMark) m)
+
+  -- where the last mark stands
+  get-last : (d : Mark) → getD (filled n (ms ++ (m ∷ []))) (length ms) d ≡ m
+  unfolding filled
+  get-last d = rw append-snoc (getD-append-seam ms m (replicate (n - length (ms ++ (m ∷ []))) blankMark) d)
+
+  set-last : (k : Mark) → set (filled n (ms ++ (m ∷ []))) (length ms) k ≡ filled n (ms ++ (k ∷ []))
+  unfolding filled
+  set-last k = simp (append-snoc, length-append) (set-append-seam ms m (replicate (n - (length ms + 1)) blankMark) k)
+
+-- the array after a command, which changes the latest mark at most: that stands at the count less 1
+module _ (n : ℕ) (d : Mark) (p : Prefix) where
+  abbrev Entered : List Mark → Command → Type 0
+  Entered ms c =
+      let i = afterOf p c .count - 1 in
+      let old = filled n (inFileOrder ms) in
+      set old i (enteredOf (getD old i d) c) ≡ filled n (inFileOrder (marksWith ms c))
+
+  entered-name : (ms : List Mark) → Consistent p ms → (a t : ℕ) → p .nameable ≡ true → Entered ms (Command.Name a t)
+  unfolding afterOf
+  entered-name [] k a t e = absurd (omega (arith, k .sound .named e))
+  entered-name (m ∷ ms) k a t e =
+      let i : p .count - 1 ≡ length (inFileOrder ms) = omega (arith, length-ordered ms) in
+      rw (i, get-last n (inFileOrder ms) m d) (set-last n (inFileOrder ms) m (named m t))
+
+  pub entered : (ms : List Mark) → Consistent p ms → (c : Command) → inOrder p c ≡ true → afterOf p c .count ≤ n → Entered ms c
+  unfolding afterOf
+  entered ms k (Command.Window x w) o l = set-getD (filled n (inFileOrder ms)) _ d
+  entered ms k (Command.Entry a x) o l = set-getD (filled n (inFileOrder ms)) _ d
+  entered ms k (Command.Mark a x) o l =
+      let i : p .count + 1 - 1 ≡ length (inFileOrder ms) = omega (arith, length-ordered ms) in
+      rw i (set-next n (inFileOrder ms) _ (omega (arith, length-ordered ms)))
+  entered ms k (Command.Name a t) o l =
+      entered-name ms k a t (both (p .nameable) _ (both (eqb (p .stage) 4) _ o .1) .0)
+  entered ms k Command.End o l = set-getD (filled n (inFileOrder ms)) _ d

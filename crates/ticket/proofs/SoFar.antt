@@ -1,0 +1,132 @@
+-- The commands that a prefix and its marks stand for, and what one command more makes of them.
+-- Assumes nothing.
+use mathlib.Core.Path.{_≡_, refl}
+use mathlib.Core.Bool.{true, false}
+use Prim.Native.Nat.{ℕ, _<_}
+use native.Mathlib.Omega.{arith}
+use mathlib.Core.List.{List, [], _∷_, _++_, append-assoc, append-nil}
+use lib.Dec.{eqb}
+use lib.ListN.{length, take, length-append}
+use borrow.Author.Tests.{eqb-true}
+use Rattle.commands.specs.declared.command.Command.{Command}
+use Rattle.commands.specs.declared.command.Command.the-variants as Command
+use Rattle.commands.specs.declared.command.Kind.{Kind}
+use Rattle.commands.specs.declared.command.Kind.the-variants.{Code, Data, Stack}
+use Rattle.commands.specs.declared.command.Window.{Window}
+use Rattle.commands.specs.declared.prefix.Header.{Header}
+use Rattle.commands.specs.declared.prefix.Prefix.{Prefix}
+use Rattle.commands.specs.Bytes.{pick}
+use Rattle.commands.specs.Cause.{turnOf, inOrder, causeOf}
+use Rattle.commands.specs.Prefix.{startOf, withWindow, stagedOf, namedOf, afterOf, Sound}
+use Rattle.ticket.proofs.Snoc.{commands-snoc}
+use Rattle.commands.proofs.Causes.{both, allowed}
+use Rattle.commands.proofs.Sound.{sound-start, sound-after}
+use Rattle.ticket.specs.declared.fields.Mark.{Mark}
+use Rattle.ticket.specs.declared.fields.Name.{Name}
+use Rattle.ticket.specs.declared.fields.Name.the-variants.{Absent}
+use Rattle.ticket.specs.Fields.{marksWith, inFileOrder}
+use Rattle.ticket.specs.Write.{headerCommands, markCommands}
+
+-- a stage is how many of $01 to $04 there are, or 5 after the end
+abbrev pub soFar : Prefix → List Mark → List Command
+soFar p ms =
+    take (p .stage) (headerCommands (p .header))
+    ++ (markCommands (inFileOrder ms) ++ pick (eqb (p .stage) 5) (Command.End ∷ []) [])
+
+-- ---- what a prefix says of its marks, the latest first
+
+-- the latest mark has the prefix's last address, and no name where one may still come
+abbrev pub Latest : Prefix → List Mark → Type 0
+Latest p [] = Unit
+Latest p (m ∷ ms) = (m .address ≡ p .last) × (p .nameable ≡ true → m .name ≡ Absent)
+
+pub record Consistent (p : Prefix) (ms : List Mark) : Type 0 where
+  pub sound : Sound p
+  pub counted : length ms ≡ p .count
+  pub latest : Latest p ms
+
+pub consistent-start : Consistent startOf []
+consistent-start = record { sound = sound-start; counted = refl; latest = tt }
+
+-- ---- one command more is the last
+
+empty : (ms : List Mark) → length ms ≡ 0 → ms ≡ []
+empty [] e = refl
+empty (m ∷ ms) e = absurd (omega arith)
+
+module _ (p : Prefix) where
+  no-marks : (ms : List Mark) → Consistent p ms → p .stage < 4 → ms ≡ []
+  no-marks ms k h = empty ms (omega (arith, k .sound .early h))
+
+  said-window : (ms : List Mark) → Consistent p ms → (d : Kind) (w : Window) → p .stage ≡ turnOf d
+      → soFar (stagedOf p 5 (withWindow d (p .header) w)) ms ≡ soFar p ms ++ (Command.Window d w ∷ [])
+  said-window ms k Code w e = rw (no-marks ms k (omega arith), e)
+  said-window ms k Data w e = rw (no-marks ms k (omega arith), e)
+  said-window ms k Stack w e = rw (no-marks ms k (omega arith), e)
+
+  -- the latest mark has no name yet, and the name's address is its own
+  said-name : (ms : List Mark) → Consistent p ms → (a t : ℕ) → p .stage ≡ 4 → p .nameable ≡ true → a ≡ p .last
+      → soFar (namedOf p) (marksWith ms (Command.Name a t)) ≡ soFar p ms ++ (Command.Name a t ∷ [])
+  said-name [] k a t e n l = absurd (omega (arith, k .sound .named n))
+  said-name (m ∷ ms) k a t e n l =
+      let own : a ≡ m .address = omega arith in
+      simp (e, own, k .latest .1 n, commands-snoc, append-assoc, append-nil)
+
+  said-step : (ms : List Mark) → Consistent p ms → (c : Command) → inOrder p c ≡ true → soFar (afterOf p c) (marksWith ms c) ≡ soFar p ms ++ (c ∷ [])
+  unfolding afterOf
+  said-step ms k (Command.Window d w) o = said-window ms k d w (eqb-true _ _ o)
+  said-step ms k (Command.Entry a l) o =
+      let e = eqb-true (p .stage) 3 o in
+      rw (no-marks ms k (omega arith), e)
+  said-step ms k (Command.Mark a l) o =
+      let e = eqb-true (p .stage) 4 (both _ _ o .0) in
+      simp (e, commands-snoc, append-assoc, append-nil)
+  said-step ms k (Command.Name a t) o =
+      let b = both (eqb (p .stage) 4) _ o in
+      let n = both (p .nameable) _ (b .1) in
+      said-name ms k a t (eqb-true _ _ (b .0)) (n .0) (eqb-true _ _ (n .1))
+  said-step ms k Command.End o =
+      let e = eqb-true (p .stage) 4 o in
+      simp (e, append-nil)
+
+  pub said-next : (ms : List Mark) → Consistent p ms → (c : Command) → causeOf p c ≡ 0 → soFar (afterOf p c) (marksWith ms c) ≡ soFar p ms ++ (c ∷ [])
+  said-next ms k c e = said-step ms k c (allowed p c e .ordered)
+
+-- ---- one command more keeps it
+
+no-name : {n : Name} → false ≡ true → n ≡ Absent
+no-name e = cc
+
+module _ (p : Prefix) where
+  kept-staged : (ms : List Mark) → Consistent p ms → (w : ℕ) (h : Header) → Sound (stagedOf p w h) → Consistent (stagedOf p w h) ms
+  kept-staged [] k w h s = record { sound = s; counted = k .counted; latest = tt }
+  kept-staged (m ∷ ms) k w h s =
+      record { sound = s; counted = k .counted; latest = (k .latest .0, no-name) }
+
+  -- a name leaves how many marks there are, and their addresses
+  kept-name : (ms : List Mark) → Consistent p ms → (a t : ℕ) → Sound (namedOf p) → Consistent (namedOf p) (marksWith ms (Command.Name a t))
+  kept-name [] k a t s = record { sound = s; counted = k .counted; latest = tt }
+  kept-name (m ∷ ms) k a t s =
+      record { sound = s; counted = k .counted; latest = (k .latest .0, no-name) }
+
+  kept-step : (ms : List Mark) → Consistent p ms → (c : Command) → Sound (afterOf p c) → Consistent (afterOf p c) (marksWith ms c)
+  unfolding afterOf
+  kept-step ms k (Command.Window d w) s = kept-staged ms k _ _ s
+  kept-step ms k (Command.Entry a l) s = kept-staged ms k _ _ s
+  kept-step ms k (Command.Mark a l) s =
+      record {
+        sound = s;
+        counted = omega (arith, k .counted);
+        latest = (refl, λ n. refl);
+      }
+  kept-step ms k (Command.Name a t) s = kept-name ms k a t s
+  kept-step ms k Command.End s = kept-staged ms k _ _ s
+
+  pub consistent-next : (ms : List Mark) → Consistent p ms → (c : Command) → causeOf p c ≡ 0 → Consistent (afterOf p c) (marksWith ms c)
+  consistent-next ms k c e = kept-step ms k c (sound-after p c (k .sound) e)
+
+-- ---- the marks in file order
+
+pub length-ordered : (ms : List Mark) → length (inFileOrder ms) ≡ length ms
+length-ordered [] = refl
+length-ordered (m ∷ ms) = simp (length-append, length-ordered ms) (omega arith)

@@ -1,0 +1,75 @@
+-- What is read is written again: the same bytes, and the writer refuses none of it.
+-- Assumes nothing.
+use mathlib.Core.Path.{_≡_, refl, sym, _∙_}
+use Prim.Native.Nat.{ℕ, _≤_}
+use native.Mathlib.Omega.{arith}
+use mathlib.Core.List.{List, _++_, append-nil}
+use lib.ListN.{length, drop}
+use lib.Seq.{append-snoc}
+use borrow.Author.Tests.{le-leb}
+use Rattle.commands.specs.declared.command.Command.{Command}
+use Rattle.commands.specs.declared.prefix.Prefix.{Prefix}
+use Rattle.commands.specs.declared.admit.Admitted.the-variants.{Next}
+use Rattle.commands.specs.Prefix.{startOf}
+use Rattle.commands.specs.Bytes.{widthOf}
+use Rattle.commands.specs.Number.{AllBytes}
+use Rattle.commands.proofs.Coding.{encode-decode, fits-decoded}
+use Rattle.commands.proofs.Digits.{bytes-drop}
+use Rattle.commands.proofs.Sound.{bounds}
+use Rattle.ticket.specs.declared.fields.Mark.{Mark}
+use Rattle.ticket.specs.Fields.{Fields, read, ticketOf, fieldsOf}
+use Rattle.ticket.specs.Read.{readOf}
+use Rattle.ticket.specs.Write.{commandsOf, encodeAll, bytesOf, checkOf, writeOf, outputOf}
+use Rattle.ticket.specs.RoundTrip.{AllFit, FitsFields}
+use Rattle.ticket.specs.RoundTrip.AllFit.{none, more}
+use Rattle.ticket.proofs.Listed.{fields-ticket}
+use Rattle.ticket.proofs.SoFar.{soFar, Consistent, consistent-start, consistent-next, said-next, length-ordered}
+use Rattle.ticket.proofs.Free.{Free, free-admitted}
+use Rattle.ticket.proofs.Course.{Course, course}
+use Rattle.ticket.proofs.Course.Course.{ended, goes}
+
+encoded : {p : Prefix} {ms : List Mark} {s : List ℕ} {cs : List Command} {f : Fields} → Course p ms s cs f → AllBytes s → encodeAll cs ≡ s
+encoded (ended e) a = refl
+encoded (goes {s} {c} d e r) a = rw (encoded r (bytes-drop (widthOf c) a), encode-decode s c a d)
+
+fit : {p : Prefix} {ms : List Mark} {s : List ℕ} {cs : List Command} {f : Fields} → Course p ms s cs f → AllBytes s → AllFit cs
+fit (ended e) a = none
+fit (goes {s} {c} d e r) a = more (fits-decoded s c a d) (fit r (bytes-drop (widthOf c) a))
+
+free : {p : Prefix} {ms : List Mark} {s : List ℕ} {cs : List Command} {f : Fields} → Course p ms s cs f → Free p cs
+free (ended e) = tt
+free (goes d e r) = (e, free r)
+
+said : {p : Prefix} {ms : List Mark} {s : List ℕ} {cs : List Command} {f : Fields} → Course p ms s cs f → Consistent p ms → soFar p ms ++ cs ≡ commandsOf f
+unfolding commandsOf
+said (ended e) k = simp (e, append-nil)
+said (goes {p} {ms} {c} {cs} d e r) k =
+    sym (append-snoc (soFar p ms) c cs) ∙ rw (← said-next p ms k c e) (said r (consistent-next p ms k c e))
+
+few-marks : {p : Prefix} {ms : List Mark} {s : List ℕ} {cs : List Command} {f : Fields} → Course p ms s cs f → Consistent p ms → length (f .marks) ≤ 4096
+few-marks (ended e) k = rw length-ordered (omega (arith, k .counted, bounds (k .sound)))
+few-marks (goes {p} {ms} {c} d e r) k = few-marks r (consistent-next p ms k c e)
+
+module _ (s : List ℕ) (f : Fields) (r : readOf s ≡ read f) where
+  -- the commands that are read are those that are written
+  same-commands : course s f r .0 ≡ commandsOf f
+  same-commands = said (course s f r .1) consistent-start
+
+  pub few : length (f .marks) ≤ 4096
+  few = few-marks (course s f r .1) consistent-start
+
+  pub checks : (q : Prefix) × (checkOf f ≡ Next q)
+  unfolding checkOf
+  checks = rw (← same-commands) (free-admitted startOf (course s f r .0) (free (course s f r .1)))
+
+pub written-read : (s : List ℕ) (f : Fields) → AllBytes s → readOf s ≡ read f → bytesOf f ≡ s
+unfolding bytesOf
+written-read s f a r = rw (← same-commands s f r) (encoded (course s f r .1) a)
+
+pub fits-read : (s : List ℕ) (f : Fields) → AllBytes s → readOf s ≡ read f → FitsFields f
+fits-read s f a r = rw (← same-commands s f r) (fit (course s f r .1) a)
+
+pub same-bytes : (s : List ℕ) (f : Fields) (out : List ℕ) → AllBytes s → readOf s ≡ read f → length s ≤ length out → outputOf (fieldsOf (ticketOf f)) out ≡ s ++ drop (length s) out
+unfolding outputOf writeOf
+same-bytes s f out a r room =
+    simp (fields-ticket f (few s f r), checks s f r .1, written-read s f a r, le-leb _ _ room)

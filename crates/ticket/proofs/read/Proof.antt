@@ -1,0 +1,101 @@
+-- `read` meets its contract. The loop's invariant is `Reached`; the measure is how many bytes are left, of which each command takes one or more.
+-- Assumes nothing.
+use borrow.Author.Needs.{needs}
+use Prim.Native.Nat.{_-_}
+use native.Mathlib.Omega.{arith}
+use mathlib.Core.Path.{sym, ap, _∙_}
+use lib.ListN.{length}
+use Rattle.commands.proofs.Digits.{all-bytes}
+use Rattle.ticket.specs.Fields.{readingOf}
+use Rattle.ticket.specs.Rules.{ReadByTheRules}
+use Rattle.ticket.proofs.Accepts.{by-the-rules}
+use Rattle.ticket.proofs.ReadLoop.{Reached, reached-start, reached-next, next-bounds, reading-refused, reading-long, reading-done}
+use Rattle.ticket.proofs.read.Statement.{statement}
+use Rattle.ticket.proofs.read.Tie as tie
+
+abbrev Inv-loop : tie.InvT-loop
+Inv-loop bytes marks₀ p₀ marks p = Reached bytes marks p
+
+abbrev μ-loop : tie.MeasureT-loop
+μ-loop bytes marks₀ p₀ marks p = length bytes - p .at
+
+-- the input is a list of bytes
+rules : (c : tie.After-shared-slice-known Inv-loop μ-loop) → ReadByTheRules (c .before .args .bytes .now)
+rules c = by-the-rules _ (all-bytes _ (λ i. c .shared-slice-known .given i .fits))
+
+next-command-requires : tie.Need-next-command-requires Inv-loop μ-loop
+next-command-requires c κs = let h = c .before .before .loop .inv in (h .kept .sound, h .inside)
+
+returns : tie.Need-returns Inv-loop μ-loop
+returns c =
+    let n = c .before .before .before .before in
+    let e = sym (n .next-command .ensures) ∙ c .before .before .r .given .1 in
+    let l = n .before .before .before in (
+      c .refused .ensures ∙ ap readingOf (sym (reading-refused _ _ _ (l .loop .inv) (n .before .if1 .taken) _ e)),
+      rules (l .before .before .before),
+    )
+
+array-copy-out-m : tie.Need-array-copy-out-m Inv-loop μ-loop
+array-copy-out-m c =
+    let n = c .before .before .before .before in
+    let e = sym (n .next-command .ensures) ∙ c .before .before .q .given .1 in
+    omega (arith, next-bounds _ _ _ (n .before .before .before .loop .inv) (n .before .if1 .taken) _ _ e)
+
+array-set-from-marks : tie.Need-array-set-from-marks Inv-loop μ-loop
+array-set-from-marks c =
+    let n = c .before .before .before .before .before .before in
+    let e = sym (n .next-command .ensures) ∙ c .before .before .before .before .q .given .1 in
+    omega (arith, next-bounds _ _ _ (n .before .before .before .loop .inv) (n .before .if1 .taken) _ _ e)
+
+loop-less : tie.Need-loop-less Inv-loop μ-loop
+loop-less c =
+    let n = c .before .before .before .before .before .before in
+    let e = sym (n .next-command .ensures) ∙ c .before .before .before .before .q .given .1 in
+    omega (arith, next-bounds _ _ _ (n .before .before .before .loop .inv) (n .before .if1 .taken) _ _ e)
+
+loop-again : tie.Need-loop-again Inv-loop μ-loop
+loop-again c =
+    let n = c .before .before .before .before .before .before in
+    let e = sym (n .next-command .ensures) ∙ c .before .before .before .before .q .given .1 in
+    rw (c .entered .ensures, c .before .before .slot .ensures)
+    (reached-next _ _ _ (n .before .before .before .loop .inv) (n .before .if1 .taken) _ _ e _)
+
+returns-2 : tie.Need-returns-2 Inv-loop μ-loop
+returns-2 c =
+    let l = c .before .before .before .before .before .before in (
+      c .refused2 .ensures ∙ rw (c .before .refuse .ensures) (ap readingOf (sym (reading-long _ _ _ (l .loop .inv) (c .before .before .before .before .if1 .left) (c .before .before .if2 .taken)))),
+      rules (l .before .before .before),
+    )
+
+returns-3 : tie.Need-returns-3 Inv-loop μ-loop
+returns-3 c =
+    let l = c .before .before .before .before .before in
+    (reading-done _ _ _ (l .loop .inv) (c .before .before .before .if1 .left) (c .before .if2 .left), rules (l .before .before .before))
+
+pub read-spec : {M : Type 1} → statement M
+read-spec =
+    tie.close
+    (tie.spec
+    Inv-loop
+    μ-loop
+    (search needs)
+    (search needs)
+    (λ c. rw (c .start .ensures, c .before .blank .ensures) (reached-start _))
+    next-command-requires
+    (search needs)
+    (search needs)
+    returns
+    (search needs)
+    (search needs)
+    (search needs)
+    array-copy-out-m
+    (search needs)
+    (search needs)
+    array-set-from-marks
+    loop-less
+    loop-again
+    (search needs)
+    (search needs)
+    (search needs)
+    returns-2
+    returns-3)

@@ -1,0 +1,85 @@
+-- `check` meets its contract. The invariant of its loop: `a` is what the checks of the first i marks give after the header's, it is sound so far,
+-- and these marks fit. The measure is how many marks are left.
+-- Assumes nothing.
+use borrow.Author.Needs.{needs}
+use mathlib.Core.Path.{_≡_, refl}
+use Prim.Native.Nat.{_-_, _≤_}
+use native.Mathlib.Omega.{arith}
+use lib.ListN.{getD}
+use Rattle.commands.specs.declared.admit.Admitted.the-variants.{Next}
+use Rattle.commands.specs.Prefix.{startOf}
+use Rattle.commands.specs.Admit.{SoundSoFar, sound}
+use Rattle.commands.proofs.Sound.{sound-start}
+use Rattle.ticket.specs.Fields.{blankMark, placeOf, listed, fieldsOf}
+use Rattle.ticket.specs.Write.{headerCommands, commandsAt, markCommands, allThen}
+use Rattle.ticket.specs.RoundTrip.{AllFit}
+use Rattle.ticket.specs.RoundTrip.AllFit.{none}
+use Rattle.ticket.proofs.Fitting.{fit-listed, fit-ticket}
+use Rattle.ticket.proofs.Place.{place-below}
+use Rattle.ticket.proofs.Checks.{sound-all, all-listed, all-checked}
+use Rattle.ticket.proofs.writer.check.Statement.{statement}
+use Rattle.ticket.proofs.writer.check.Tie as tie
+
+abbrev Inv-loop : tie.InvT-loop
+Inv-loop marks count a₀ i₀ a i =
+    SoundSoFar a × (a ≡ allThen a₀ (markCommands (listed marks i))) × AllFit (markCommands (listed marks i)) × (i ≤ count)
+
+abbrev μ-loop : tie.MeasureT-loop
+μ-loop marks count a₀ i₀ a i = count - i
+
+loop-holds : tie.Need-loop-holds Inv-loop μ-loop
+loop-holds c =
+    let h = c .before .before .before .before .args .t .header in
+    (rw (c .header-checked .ensures .0) (sound-all (Next startOf) (headerCommands h) (sound sound-start)), refl, none, omega arith)
+
+array-copy-out-m : tie.Need-array-copy-out-m Inv-loop μ-loop
+array-copy-out-m c = rw (c .place .ensures) (place-below (c .before .before .loop .i))
+
+mul-m : tie.Need-mul-m Inv-loop μ-loop
+mul-m c = record { fits = omega (arith, array-copy-out-m c) }
+
+mark-checked-requires : tie.Need-mark-checked-requires Inv-loop μ-loop
+mark-checked-requires c κs = c .before .before .before .loop .inv .0
+
+loop-again : tie.Need-loop-again Inv-loop μ-loop
+loop-again c =
+    let l = c .before .before .before .before .loop in
+    let ms = c .before .before .before .before .before .before .before .before .before .args .t .marks in
+    let m = getD ms (placeOf (l .i)) blankMark in
+    let next : c .mark-checked .result ≡ allThen (l .a) (commandsAt m) = simp (c .mark-checked .ensures .0, c .before .before .place .ensures) in (
+      rw next (sound-all (l .a) (commandsAt m) (l .inv .0)),
+      rw (next, all-listed, ← l .inv .1),
+      fit-listed ms (l .i) (l .inv .2) (rw (← c .before .before .place .ensures) (c .mark-checked .ensures .1)),
+      omega arith,
+    )
+
+then-requires : tie.Need-then-requires Inv-loop μ-loop
+then-requires c κs = c .before .loop .inv .0
+
+returns : tie.Need-returns Inv-loop μ-loop
+unfolding fieldsOf
+returns c =
+    let l = c .before .before .loop in
+    let t = c .before .before .before .before .before .before .before .args .t in
+    let head = c .before .before .before .header-checked .ensures in
+    let all : l .i ≡ t .count = omega arith in
+    (simp (c .then .ensures, all-checked, l .inv .1, all, head .0), fit-ticket (fieldsOf t) (head .1) (rw (← all) (l .inv .2)))
+
+pub check-spec : {M : Type 1} → statement M
+check-spec =
+    tie.close
+    (tie.spec
+    Inv-loop
+    μ-loop
+    (search needs)
+    (search needs)
+    loop-holds
+    (search needs)
+    mul-m
+    array-copy-out-m
+    mark-checked-requires
+    (λ c. omega arith)
+    (λ c. omega arith)
+    loop-again
+    then-requires
+    returns)

@@ -1,0 +1,93 @@
+-- The fields of a ticket as a header and a list of marks, and as the code's array holds them (document 01, "The ticket").
+-- Assumes nothing.
+use Prim.Native.Nat.{ℕ, zero, suc, _-_}
+use mathlib.Core.List.{List, [], _∷_, _++_}
+use lib.Dec.{ltb}
+use lib.ListN.{length, getD, replicate}
+use Rattle.commands.specs.declared.command.Claim.{Claim}
+use Rattle.commands.specs.declared.command.Command.{Command}
+use Rattle.commands.specs.declared.command.Command.the-variants as Command
+use Rattle.commands.specs.declared.command.Refusal.{Refusal}
+use Rattle.commands.specs.declared.prefix.Header.{Header}
+use Rattle.commands.specs.Bytes.{pick}
+use Rattle.commands.specs.Prefix.{blankHeader}
+use Rattle.ticket.specs.declared.fields.Name.{Name}
+use Rattle.ticket.specs.declared.fields.Name.the-variants.{Absent, Text}
+use Rattle.ticket.specs.declared.fields.Mark.{Mark}
+use Rattle.ticket.specs.declared.fields.Ticket.{Ticket}
+use Rattle.ticket.specs.declared.answer.Answer.{Answer}
+use Rattle.ticket.specs.declared.answer.Answer.the-variants as Answer
+use Rattle.ticket.specs.declared.answer.Reading.{Reading}
+
+pub record Fields : Type 0 where
+  pub header : Header
+  pub marks : List Mark
+
+-- of reading: the fields, or a refusal's number and place
+pub data Outcome : Type 0 where
+  read : Fields → Outcome
+  refused : Refusal → Outcome
+
+abbrev pub unnamed : ℕ → Claim → Mark
+unnamed a k = record { address = a; claim = k; name = Absent }
+
+abbrev pub named : Mark → ℕ → Mark
+named m t = record { address = m .address; claim = m .claim; name = Text t }
+
+-- the marks, the latest first, with one command more: a mark is the latest, a name is its mark's
+abbrev pub marksWith : List Mark → Command → List Mark
+marksWith ms (Command.Window k w) = ms
+marksWith ms (Command.Entry a l) = ms
+marksWith ms (Command.Mark a k) = unnamed a k ∷ ms
+marksWith [] (Command.Name a t) = []
+marksWith (m ∷ ms) (Command.Name a t) = named m t ∷ ms
+marksWith ms Command.End = ms
+
+-- the same of the latest mark alone
+abbrev pub enteredOf : Mark → Command → Mark
+enteredOf m (Command.Window k w) = m
+enteredOf m (Command.Entry a l) = m
+enteredOf m (Command.Mark a k) = unnamed a k
+enteredOf m (Command.Name a t) = named m t
+enteredOf m Command.End = m
+
+abbrev pub inFileOrder : List Mark → List Mark
+inFileOrder [] = []
+inFileOrder (m ∷ ms) = inFileOrder ms ++ (m ∷ [])
+
+abbrev pub blankMark : Mark
+blankMark =
+    record {
+      address = 0;
+      claim = record { cost = record { 0 = 0 }; depth = record { 0 = 0 }; need = record { 0 = 0 } };
+      name = Absent;
+    }
+
+-- the code's ticket: the marks at the beginning of the array, blank ones after them
+unfoldable pub ticketOf : Fields → Ticket
+ticketOf f =
+    record {
+      header = f .header;
+      count = length (f .marks);
+      marks = f .marks ++ replicate (4096 - length (f .marks)) blankMark;
+    }
+
+abbrev pub noFields : Fields
+noFields = record { header = blankHeader; marks = [] }
+
+abbrev pub readingOf : Outcome → Reading
+readingOf (read f) = record { answer = Answer.Read; ticket = ticketOf f }
+readingOf (refused r) = record { answer = Answer.Refused r; ticket = ticketOf noFields }
+
+-- Where entry i of the marks stands. Document 01 leaves a count above 4,096 free: past the array's end its last entry stands again, so that the
+-- writer refuses the 4,097th mark with 3, as one that does not rise.
+abbrev pub placeOf : ℕ → ℕ
+placeOf i = pick (ltb i 4096) i 4095
+
+abbrev pub listed : List Mark → ℕ → List Mark
+listed ms zero = []
+listed ms (suc n) = listed ms n ++ (getD ms (placeOf n) blankMark ∷ [])
+
+-- the fields that the code's ticket holds
+unfoldable pub fieldsOf : Ticket → Fields
+fieldsOf t = record { header = t .header; marks = listed (t .marks) (t .count) }

@@ -1,0 +1,73 @@
+-- What must hold of a ticket's fields for it to be read, stated without order or computation (document 01, "The ticket", and causes 3 to 7).
+-- Assumes nothing.
+use Prim.Native.Nat.{ℕ, _+_, _≤_, _<_}
+use mathlib.Core.Path.{_≡_}
+use mathlib.Core.Logic.{_↔_}
+use mathlib.Core.List.{List, [], _∷_}
+use Rattle.commands.specs.Number.{digits}
+use Rattle.commands.specs.declared.command.Window.{Window}
+use Rattle.commands.specs.declared.command.Claim.{Claim}
+use Rattle.commands.specs.declared.prefix.Header.{Header}
+use Rattle.ticket.specs.declared.fields.Name.{Name}
+use Rattle.ticket.specs.declared.fields.Name.the-variants.{Absent, Text}
+use Rattle.ticket.specs.declared.fields.Mark.{Mark}
+use Rattle.ticket.specs.Fields.{Fields, read}
+use Rattle.ticket.specs.Read.{readOf}
+use Rattle.ticket.specs.Write.{bytesOf}
+use Rattle.ticket.specs.RoundTrip.{FitsFields, Rising}
+
+abbrev pub Between : ℕ → ℕ → ℕ → Type 0
+Between least most v = (least ≤ v) × (v ≤ most)
+
+-- every element of a list has a property
+pub data Every {ℓ} {A : Type ℓ} (P : A → Type 0) : List A → Type ℓ where
+  none : Every P []
+  more : {a : A} {l : List A} → P a → Every P l → Every P (a ∷ l)
+
+-- an address lies in a window
+abbrev pub In : Window → ℕ → Type 0
+In w a = (w .start ≤ a) × (a < w .start + w .length)
+
+abbrev pub Apart : Window → Window → Type 0
+Apart v w = (a : ℕ) → In v a → In w a → ⊥
+
+abbrev pub Inside64K : Window → Type 0
+Inside64K w = w .start + w .length ≤ 65536
+
+pub record HeaderRules (h : Header) : Type 0 where
+  pub code-length : Between 1 4096 (h .code .length)
+  pub data-length : Between 0 8192 (h .«data» .length)
+  pub stack-length : Between 2 1024 (h .stack .length)
+  pub limit-range : Between 1 2000000 (h .limit .0)
+  pub code-edge : Inside64K (h .code)
+  pub data-edge : Inside64K (h .«data»)
+  pub stack-edge : Inside64K (h .stack)
+  pub code-start : 1 ≤ h .code .start
+  pub stack-start : 1 ≤ h .stack .start
+  pub data-apart : Apart (h .code) (h .«data»)
+  pub stack-apart-code : Apart (h .code) (h .stack)
+  pub stack-apart-data : Apart (h .«data») (h .stack)
+
+pub record ClaimRules (k : Claim) : Type 0 where
+  pub cost-range : k .cost .0 ≤ 2000000
+  pub depth-range : k .depth .0 ≤ 1022
+  pub need-range : k .need .0 ≤ 1022
+
+-- each byte of a text is $20 to $7E
+pub data NameRule : Name → Type 0 where
+  absent : NameRule Absent
+  text : {t : ℕ} → Every (Between 0x20 0x7e) (digits 8 t) → NameRule (Text t)
+
+pub record MarkRules (h : Header) (m : Mark) : Type 0 where
+  pub claimed : ClaimRules (m .claim)
+  pub inside : In (h .code) (m .address)
+  pub named : NameRule (m .name)
+
+pub record Readable (f : Fields) : Type 0 where
+  pub header-rules : HeaderRules (f .header)
+  pub mark-rules : Every (MarkRules (f .header)) (f .marks)
+  pub rising : Rising (f .marks)
+
+-- bytes are read as some fields exactly where they are the fields' bytes and every rule at reading holds
+abbrev pub ReadByTheRules : List ℕ → Type 0
+ReadByTheRules s = (f : Fields) → (readOf s ≡ read f) ↔ ((bytesOf f ≡ s) × FitsFields f × Readable f)

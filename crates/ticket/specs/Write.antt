@@ -1,0 +1,81 @@
+-- The bytes of a ticket, and what the writer answers: 3 to 7 on the fields first, with the offset that the command would have, then 24 with the bytes
+-- needed (document 01, "The ticket", "Where a ticket stops").
+-- Assumes nothing.
+use Prim.Native.Nat.{ℕ, _+_}
+use mathlib.Core.List.{List, [], _∷_, _++_}
+use lib.Dec.{leb}
+use lib.ListN.{length, take, drop}
+use Rattle.commands.specs.declared.command.Command.{Command}
+use Rattle.commands.specs.declared.command.Command.the-variants as Command
+use Rattle.commands.specs.declared.command.Kind.the-variants.{Code, Data, Stack}
+use Rattle.commands.specs.declared.prefix.Header.{Header}
+use Rattle.commands.specs.declared.admit.Admitted.{Admitted}
+use Rattle.commands.specs.declared.admit.Admitted.the-variants.{Refused, Next}
+use Rattle.commands.specs.Bytes.{pick, encodeOf}
+use Rattle.commands.specs.Prefix.{startOf}
+use Rattle.commands.specs.Admit.{thenOf}
+use Rattle.ticket.specs.declared.fields.Name.{Name}
+use Rattle.ticket.specs.declared.fields.Name.the-variants.{Absent, Text}
+use Rattle.ticket.specs.declared.fields.Mark.{Mark}
+use Rattle.ticket.specs.declared.answer.Written.{Written}
+use Rattle.ticket.specs.declared.answer.Written.the-variants as Written
+use Rattle.ticket.specs.Fields.{Fields}
+
+-- $01 to $04, once each, in that order
+abbrev pub headerCommands : Header → List Command
+headerCommands h =
+    Command.Window Code (h .code)
+    ∷ Command.Window Data (h .«data»)
+    ∷ Command.Window Stack (h .stack)
+    ∷ Command.Entry (h .entry) (h .limit)
+    ∷ []
+
+abbrev pub nameCommands : ℕ → Name → List Command
+nameCommands a Absent = []
+nameCommands a (Text t) = Command.Name a t ∷ []
+
+-- a mark, and its name at once after it
+abbrev pub commandsAt : Mark → List Command
+commandsAt m = Command.Mark (m .address) (m .claim) ∷ nameCommands (m .address) (m .name)
+
+abbrev pub markCommands : List Mark → List Command
+markCommands [] = []
+markCommands (m ∷ ms) = commandsAt m ++ markCommands ms
+
+unfoldable pub commandsOf : Fields → List Command
+commandsOf f = headerCommands (f .header) ++ (markCommands (f .marks) ++ (Command.End ∷ []))
+
+abbrev pub encodeAll : List Command → List ℕ
+encodeAll [] = []
+encodeAll (c ∷ cs) = encodeOf c ++ encodeAll cs
+
+unfoldable pub bytesOf : Fields → List ℕ
+bytesOf f = encodeAll (commandsOf f)
+
+-- some commands one after another; what comes after a refused one is not looked at
+abbrev pub allThen : Admitted → List Command → Admitted
+allThen a [] = a
+allThen a (c ∷ cs) = allThen (thenOf a c) cs
+
+unfoldable pub checkOf : Fields → Admitted
+checkOf f = allThen (Next startOf) (commandsOf f)
+
+-- n bytes are needed
+abbrev pub writtenIf : Admitted → ℕ → ℕ → Written
+writtenIf (Refused r) n room = Written.Refused r
+writtenIf (Next p) n room = pick (leb n room) (Written.Length n) (Written.Refused (record { number = 24; place = n }))
+
+unfoldable pub writeOf : Fields → ℕ → Written
+writeOf f room = writtenIf (checkOf f) (length (bytesOf f)) room
+
+-- a list with another in place of as many elements from an index on
+unfoldable pub spliced : List ℕ → ℕ → List ℕ → List ℕ
+spliced old at new = take at old ++ (new ++ drop (at + length new) old)
+
+abbrev pub outputIf : Written → Fields → List ℕ → List ℕ
+outputIf (Written.Length n) f out = bytesOf f ++ drop n out
+outputIf (Written.Refused r) f out = out
+
+-- the output afterwards: the ticket's bytes and then what was there, or all as before
+unfoldable pub outputOf : Fields → List ℕ → List ℕ
+outputOf f out = outputIf (writeOf f (length out)) f out

@@ -1,0 +1,20 @@
+// What reading and writing answer.
+use crate::fields::Ticket;
+use commands::command::Refusal;
+
+pub enum Answer {
+    Read,
+    Refused(Refusal),
+}
+
+// No enum holds an array, so the ticket stands beside the answer; it is blank where the bytes are refused.
+pub struct Reading {
+    pub answer: Answer,
+    pub ticket: Ticket,
+}
+
+// How many bytes were written, or why none was: document 01's 3 to 7 with the offset that the command would have, or 24 with the bytes needed.
+pub enum Written {
+    Length(u32),
+    Refused(Refusal),
+}

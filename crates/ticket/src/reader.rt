@@ -1,0 +1,88 @@
+// The parts of reading: the next command, and what it says of the marks.
+ghost use mathlib.Core.Path.{_≡_};
+ghost use Prim.Native.Nat.{_-_, _≤_};
+ghost use lib.ListN.{length, drop};
+ghost use Rattle.commands.specs.Prefix.{Sound};
+ghost use Rattle.ticket.specs.Fields.{Outcome, enteredOf, readingOf};
+ghost use Rattle.ticket.specs.Read.{turnOf};
+use crate::answer::Answer;
+use crate::answer::Reading;
+use crate::fields::Mark;
+use crate::fields::Name;
+use crate::fields::Ticket;
+use crate::fields::blank;
+use commands::admit::Admitted;
+use commands::admit::admit;
+use commands::command::Command;
+use commands::command::Refusal;
+use commands::command::refuse;
+use commands::decode::Decoded;
+use commands::decode::decode;
+use commands::prefix::Header;
+use commands::prefix::Prefix;
+
+// A command that is refused, or one that is read, with what it leaves for the next.
+pub enum Turn {
+    Refused(Refusal),
+    Next(Prefix, Command),
+}
+
+// The next command of a ticket.
+pub fn next_command(bytes: &[u8], p: Prefix) -> Turn
+    requires { ⌜ Sound p × (p .at ≤ length (now bytes)) ⌝ }
+    ensures { λ r. ⌜ r ≡ turnOf (drop (p .at) (now (bytes .entry))) p ⌝ }
+{
+    let at = p.at as usize;
+    match decode(&bytes[at..]) {
+        Decoded::Unknown => Turn::Refused(refuse(1, p.at)),
+        Decoded::Cut => Turn::Refused(refuse(2, p.at)),
+        Decoded::Found(c) => match admit(p, c) {
+            Admitted::Refused(r) => Turn::Refused(r),
+            Admitted::Next(q) => Turn::Next(q, c),
+        },
+    }
+}
+
+// Where the latest of some marks stands.
+pub fn slot(count: u16) -> usize
+    ensures { λ r. ⌜ r ≡ count - 1 ⌝ }
+{
+    if count == 0 { 0 } else { (count as usize) - 1 }
+}
+
+// The latest mark after a command: that of a mark, the same with its name, or the same.
+pub fn entered(m: Mark, c: Command) -> Mark
+    ensures { λ r. ⌜ r ≡ enteredOf m c ⌝ }
+{
+    match c {
+        Command::Window(_, _) => m,
+        Command::Entry(_, _) => m,
+        Command::Mark(address, claim) => Mark {
+            address,
+            claim,
+            name: Name::Absent,
+        },
+        Command::Name(_, t) => {
+            let claim = m.claim;
+            Mark {
+                address: m.address,
+                claim,
+                name: Name::Text(t),
+            }
+        }
+        Command::End => m,
+    }
+}
+
+pub fn refused(r: Refusal) -> Reading
+    ensures { λ q. ⌜ q ≡ readingOf (Outcome.refused r) ⌝ }
+{
+    Reading {
+        answer: Answer::Refused(r),
+        ticket: Ticket {
+            header: Header::BLANK,
+            count: 0,
+            marks: [blank(); 4096],
+        },
+    }
+}

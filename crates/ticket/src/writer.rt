@@ -1,0 +1,132 @@
+// The two passes of writing: the checks, then the bytes. Both go through the ticket's commands in file order.
+ghost use mathlib.Core.Path.{_≡_};
+ghost use Prim.Native.Nat.{_+_, _≤_};
+ghost use lib.ListN.{length};
+ghost use Rattle.commands.specs.Bytes.{encodeOf, widthOf};
+ghost use Rattle.commands.specs.Admit.{SoundSoFar};
+ghost use Rattle.commands.specs.Prefix.{startOf};
+ghost use Rattle.ticket.specs.Fields.{fieldsOf, placeOf};
+ghost use Rattle.ticket.specs.Write.{headerCommands, commandsAt, allThen, encodeAll, spliced, bytesOf, checkOf};
+ghost use Rattle.ticket.specs.RoundTrip.{AllFit, FitsFields};
+use crate::fields::Mark;
+use crate::fields::Name;
+use crate::fields::Ticket;
+use commands::admit::Admitted;
+use commands::admit::then;
+use commands::command::Command;
+use commands::command::Kind;
+use commands::encode::encode;
+use commands::prefix::Header;
+use commands::prefix::start;
+
+// Where entry i of a list of marks stands. Past the array's end its last entry stands again, which is refused as a mark that does not rise.
+fn place(i: usize) -> usize
+    ensures { λ r. ⌜ r ≡ placeOf i ⌝ }
+{
+    if i < 4096 { i } else { 4095 }
+}
+
+fn header_checked(h: Header) -> Admitted
+    ensures { λ r. ⌜ (r ≡ allThen (Admitted.Next startOf) (headerCommands h)) × AllFit (headerCommands h) ⌝ }
+{
+    let code = h.code;
+    let data = h.data;
+    let stack = h.stack;
+    let limit = h.limit;
+    let a = then(Admitted::Next(start()), Command::Window(Kind::Code, code));
+    let b = then(a, Command::Window(Kind::Data, data));
+    let c = then(b, Command::Window(Kind::Stack, stack));
+    then(c, Command::Entry(h.entry, limit))
+}
+
+fn mark_checked(a: Admitted, m: Mark) -> Admitted
+    requires { ⌜ SoundSoFar a ⌝ }
+    ensures { λ r. ⌜ (r ≡ allThen a (commandsAt m)) × AllFit (commandsAt m) ⌝ }
+{
+    let claim = m.claim;
+    let name = m.name;
+    let b = then(a, Command::Mark(m.address, claim));
+    match name {
+        Name::Absent => b,
+        Name::Text(t) => then(b, Command::Name(m.address, t)),
+    }
+}
+
+// Document 01's 3 to 7 on the fields, with the offset that the command would have. That every number fits its command's bytes is what the types say.
+pub fn check(t: Ticket) -> Admitted
+    ensures { λ r. ⌜ (r ≡ checkOf (fieldsOf t)) × FitsFields (fieldsOf t) ⌝ }
+{
+    let header = t.header;
+    let marks = t.marks;
+    let count = t.count as usize;
+    let mut a = header_checked(header);
+    let mut i = 0;
+    while i < count {
+        let j = place(i);
+        let m = marks[j];
+        a = mark_checked(a, m);
+        i += 1;
+    }
+    then(a, Command::End)
+}
+
+// A command at an offset of the output; the offset after it.
+fn put_command(c: Command, out: &mut [u8], at: usize) -> usize
+    requires { ⌜ at + widthOf c ≤ length (now out) ⌝ }
+    ensures { λ r. ⌜ (now (out .exit) ≡ spliced (now (out .entry)) at (encodeOf c)) × (r ≡ at + widthOf c) ⌝ }
+{
+    let e = encode(c);
+    let bytes = e.bytes;
+    let width = e.width;
+    let mut i = 0;
+    while i < width {
+        out[at + i] = bytes[i];
+        i += 1;
+    }
+    at + width
+}
+
+fn put_header(h: Header, out: &mut [u8]) -> usize
+    requires { ⌜ 22 ≤ length (now out) ⌝ }
+    ensures { λ r. ⌜ (now (out .exit) ≡ spliced (now (out .entry)) 0 (encodeAll (headerCommands h))) × (r ≡ 22) ⌝ }
+{
+    let code = h.code;
+    let data = h.data;
+    let stack = h.stack;
+    let limit = h.limit;
+    let a = put_command(Command::Window(Kind::Code, code), out, 0);
+    let b = put_command(Command::Window(Kind::Data, data), out, a);
+    let c = put_command(Command::Window(Kind::Stack, stack), out, b);
+    put_command(Command::Entry(h.entry, limit), out, c)
+}
+
+fn put_mark(m: Mark, out: &mut [u8], at: usize) -> usize
+    requires { ⌜ at + length (encodeAll (commandsAt m)) ≤ length (now out) ⌝ }
+    ensures { λ r. ⌜ (now (out .exit) ≡ spliced (now (out .entry)) at (encodeAll (commandsAt m))) × (r ≡ at + length (encodeAll (commandsAt m))) ⌝ }
+{
+    let claim = m.claim;
+    let name = m.name;
+    let next = put_command(Command::Mark(m.address, claim), out, at);
+    match name {
+        Name::Absent => next,
+        Name::Text(t) => put_command(Command::Name(m.address, t), out, next),
+    }
+}
+
+pub fn put(t: Ticket, out: &mut [u8])
+    requires { ⌜ length (bytesOf (fieldsOf t)) ≤ length (now out) ⌝ }
+    ensures { λ _. ⌜ now (out .exit) ≡ spliced (now (out .entry)) 0 (bytesOf (fieldsOf t)) ⌝ }
+{
+    let header = t.header;
+    let marks = t.marks;
+    let count = t.count as usize;
+    let mut at = put_header(header, out);
+    let mut i = 0;
+    while i < count {
+        let j = place(i);
+        let m = marks[j];
+        at = put_mark(m, out, at);
+        i += 1;
+    }
+    put_command(Command::End, out, at);
+}

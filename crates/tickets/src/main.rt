@@ -1,0 +1,24 @@
+// Tickets read and written: each as a short text, and what is answered. The file stdout has document 01's answers, worked out by hand.
+use print::text;
+
+mod build; // a ticket's bytes from a short text
+mod fields; // tickets given to the writer as fields
+mod lines; // the tickets of a file
+mod print; // text
+mod show; // what is answered
+
+fn main() {
+    let fd = os::open_read(b"tickets.txt");
+    if fd < 0 {
+        text(b"tickets.txt: CANNOT BE OPENED\n");
+        return;
+    }
+    let mut file = io::large_buffer();
+    let n = io::read_full(fd, &mut file);
+    libc::close(fd);
+    lines::lines(&file[0..n]);
+    fields::rooms();
+    fields::headers();
+    fields::marks();
+    fields::counts();
+}
