@@ -1,0 +1,94 @@
+-- The run goes along a trace as far as the budget covers it.
+-- Assumes nothing.
+use Prim.Native.Nat.{ℕ, suc, _+_, _≤_, _<_}
+use mathlib.Core.Path.{_≡_, refl, ap, _∙_}
+use mathlib.Core.Logic.{⊎-elim}
+use mathlib.Core.List.{List, [], _∷_, _++_, append-assoc}
+use native.Mathlib.Omega.{arith}
+use native.Mathlib.Nat.{zero-add, add-zero, add-assoc}
+use lib.ListN.{length}
+use borrow.Author.Tests.{eq-eqb}
+use Rattle.registers.specs.declared.Registers.{Registers}
+use Rattle.opcodes.proofs.Order.{le-or-lt}
+use Rattle.memory.specs.Memory.{Store, applied}
+use Rattle.stepper.specs.Step.{did, didOf, After, stepOf}
+use Rattle.stepper.specs.Run.{AfterRun, runFrom, runOf}
+use Rattle.stepper.specs.Advance.{stepped}
+use Rattle.stepper.proofs.Turn as Turn
+use Rattle.stepper.proofs.Enough.{enough}
+use Rattle.rules.specs.Trace.{Deed, total, Along, stay, then, kindOf}
+use Rattle.rules.specs.Claim.{ranHome, ranSpent, Stops}
+use Rattle.rules.proofs.Obeys.{busy}
+
+-- the run that has spent s of b
+abbrev runOn : ℕ → ℕ → Registers → List ℕ → AfterRun
+runOn b s r m = runFrom (suc b) b s r m
+
+starts : (r : Registers) (m : List ℕ) (b : ℕ) → length m ≡ 65536 → runOf r m b ≡ runOn b 0 r m
+unfolding runOf
+starts r m b whole = simp (eq-eqb _ _ whole)
+
+module _ (b s : ℕ) (r : Registers) (m : List ℕ) {q : Registers} {ws : List Store} {k : ℕ} (away : r .pc ≡ 0 → ⊥) (done : didOf r m ≡ did q ws k) where
+  steps : stepOf r m ≡ stepped q k (applied ws m)
+  unfolding stepOf
+  steps = simp done
+
+  goes-on : s + k ≤ b → runOn b s r m ≡ runOn b (s + k) q (applied ws m)
+  goes-on l =
+      let two = busy r q m ws k done in
+      Turn.away b b s r m away ∙ Turn.steps b b s r m steps l ∙ enough b (suc b) b (s + k) q (applied ws m) l (omega (arith, two)) (omega arith)
+
+  stands : b < s + k → runOn b s r m ≡ ranSpent r m s
+  stands l = Turn.away b b s r m away ∙ Turn.over b b s r m (ap (λ (x : After). x .answer) steps) l
+
+-- a trace that is covered is gone along
+follows : {r e : Registers} {m n : List ℕ} {ds : List Deed} (b s : ℕ) → Along r m ds e n → s + total ds ≤ b → runOn b s r m ≡ runOn b (s + total ds) e n
+follows b s stay l = rw add-zero refl
+follows b s (then {r} {m} {k} away done rest) l = goes-on b s r m away done (omega arith) ∙ follows b (s + k) rest (omega arith) ∙ rw add-assoc refl
+
+from-start : {r e : Registers} {m n : List ℕ} {ds : List Deed} (b : ℕ) → length m ≡ 65536 → Along r m ds e n → total ds ≤ b → runOf r m b ≡ runOn b (total ds) e n
+from-start {r} {m} {ds} b whole a l = starts r m b whole ∙ follows b 0 a (omega arith) ∙ rw zero-add refl
+
+pub run-home : {r e : Registers} {m n : List ℕ} {ds : List Deed} → length m ≡ 65536 → Along r m ds e n → e .pc ≡ 0 → (b : ℕ) → total ds ≤ b
+    → runOf r m b ≡ ranHome e n (total ds)
+run-home {e} {n} {ds} whole a h b l = from-start b whole a l ∙ Turn.at-home b b (total ds) e n h
+
+-- two traces, one after the other
+joined : {r q e : Registers} {m n o : List ℕ} {ds ds′ : List Deed} → Along r m ds q n → Along q n ds′ e o → Along r m (ds ++ ds′) e o
+joined stay a′ = a′
+joined (then away done a) a′ = then away done (joined a a′)
+
+total-++ : (ds ds′ : List Deed) → total (ds ++ ds′) ≡ total ds + total ds′
+total-++ [] ds′ = rw zero-add refl
+total-++ (d ∷ ds) ds′ = rw (total-++ ds ds′, add-assoc) refl
+
+module _ (r₀ : Registers) (m₀ : List ℕ) (whole : length m₀ ≡ 65536) (b : ℕ) where
+  -- where the next instruction is not covered
+  stops-here : (before : List Deed) {r q : Registers} {m : List ℕ} {ws : List Store} (d : Deed) (ds : List Deed) → Along r₀ m₀ before r m
+      → total before ≤ b → (r .pc ≡ 0 → ⊥) → didOf r m ≡ did q ws (d .cycles) → b < total before + d .cycles → Stops r₀ m₀ (before ++ (d ∷ ds)) b
+  stops-here before {r} {m} d ds a l away done u = record {
+    before = before;
+    next = d;
+    rest = ds;
+    parts = refl;
+    registers = r;
+    memory = m;
+    along = a;
+    covered = l;
+    uncovered = u;
+    answer = from-start b whole a l ∙ stands b (total before) r m away done u;
+  }
+
+  -- what is done is covered, and all that is left is not
+  stops : (before : List Deed) {r e : Registers} {m n : List ℕ} {ds : List Deed} → Along r₀ m₀ before r m → total before ≤ b → Along r m ds e n
+      → b < total before + total ds → Stops r₀ m₀ (before ++ ds) b
+  stops before a l stay u = absurd (omega arith)
+  stops before a l (then {r} {q} {m} {ws} {k} {ds} away done rest) u =
+      let d : Deed = record { kind = kindOf m (r .pc); stores = ws; cycles = k; sp = q .sp } in
+      let sum : total (before ++ (d ∷ [])) ≡ total before + k = rw (total-++ before (d ∷ []), add-zero) refl in
+      ⊎-elim (λ c. let later = stops (before ++ (d ∷ [])) (joined a (then away done stay)) (omega (arith, sum, c)) rest (omega (arith, sum)) in
+      rw (append-assoc before (d ∷ []) ds) at later)
+      (λ c. stops-here before d ds a l away done c) (le-or-lt (total before + k) b)
+
+pub run-stops : {r e : Registers} {m n : List ℕ} {ds : List Deed} → length m ≡ 65536 → Along r m ds e n → (b : ℕ) → b < total ds → Stops r m ds b
+run-stops {r} {m} whole a b u = stops r m whole b [] stay (omega arith) a (omega arith)

@@ -1,0 +1,66 @@
+-- From one step to the whole way: the cycles that are left fall with each.
+-- Assumes nothing.
+use Prim.Native.Nat.{ℕ, zero, suc, _≤_}
+use mathlib.Core.Path.{_≡_}
+use mathlib.Core.Logic.{_⊎_, inl, inr}
+use mathlib.Core.List.{List, [], _∷_}
+use native.Mathlib.Omega.{arith}
+use Rattle.registers.specs.declared.Registers.{Registers}
+use Rattle.memory.specs.Memory.{applied}
+use Rattle.ticket.specs.Fields.{Fields}
+use Rattle.rules.specs.Rules.{Accepted}
+use Rattle.rules.specs.Trace.{Deed, total, Along, stay, then, kindOf, inUseAfter}
+use Rattle.rules.specs.Claim.{topOf, Keeps, Safe}
+use Rattle.rules.proofs.Obeys.{busy}
+use Rattle.rules.proofs.Ready.{Ready, Arrived, Stepped, under-top, free, not-home, one-step}
+
+-- the way home within p cycles, from the registers r and the memory m, with the return addresses `used` in use
+pub record Course (f : Fields) (need : ℕ) (r : Registers) (m : List ℕ) (used : List (List ℕ)) (p : ℕ) : Type 0 where
+  pub deeds : List Deed
+  pub last : Registers
+  pub memory : List ℕ
+  pub along : Along r m deeds last memory
+  pub home : last .pc ≡ 0
+  pub in-time : total deeds ≤ p
+  pub empty : last .sp ≡ topOf f
+  pub safe : Safe f need used deeds
+
+module _ {f : Fields} {image : List ℕ} (A : Accepted f image) where
+  module _ (r : Registers) (m : List ℕ) (used : List (List ℕ)) (p : ℕ) (away : r .pc ≡ 0 → ⊥) (S : Stepped A r m used p) where
+    abbrev deed : Deed
+    deed = record { kind = kindOf m (r .pc); stores = S .stores; cycles = S .cycles; sp = S .registers .sp }
+
+    -- after the step
+    abbrev Next : (Registers → List ℕ → List (List ℕ) → ℕ → Type 0) → Type 0
+    Next P = P (S .registers) (applied (S .stores) m) (inUseAfter (kindOf m (r .pc)) (S .stores) used) (S .left)
+
+    first : Keeps f (A .start .need .0) used deed → Next (Course f (A .start .need .0)) → Course f (A .start .need .0) r m used p
+    first K C = record {
+      deeds = deed ∷ C .deeds;
+      last = C .last;
+      memory = C .memory;
+      along = then away (S .done) (C .along);
+      home = C .home;
+      in-time = omega (arith, S .cost, C .in-time);
+      empty = C .empty;
+      safe = (K, C .safe);
+    }
+
+    next : (Next (Ready A) → Next (Course f (A .start .need .0))) → Arrived f (S .registers) ⊎ Next (Ready A) → Course f (A .start .need .0) r m used p
+    next rest (inl a) =
+        first (record { spares = S .spares; sp-low = omega (arith, a .sp); sp-high = omega (arith, a .sp); sp-need = omega (arith, a .sp) })
+        (record { deeds = []; last = S .registers; memory = applied (S .stores) m; along = stay; home = a .pc; in-time = omega arith; empty = a .sp; safe = tt })
+    next rest (inr R) =
+        first (record { spares = S .spares; sp-low = omega (arith, free R); sp-high = omega (arith, under-top R, R .depth); sp-need = omega (arith, R .room) })
+        (rest R)
+
+  pub course : (n : ℕ) (r : Registers) (m : List ℕ) (used : List (List ℕ)) (p : ℕ) → p ≤ n → Ready A r m used p → Course f (A .start .need .0) r m used p
+  course zero r m used p b R =
+      let S = one-step R in
+      absurd (omega (arith, busy r (S .registers) m (S .stores) (S .cycles) (S .done), S .cost))
+  course (suc n) r m used p b R =
+      let S = one-step R in
+      next r m used p (not-home R) S
+      (course n (S .registers) (applied (S .stores) m) (inUseAfter (kindOf m (r .pc)) (S .stores) used) (S .left)
+      (omega (arith, busy r (S .registers) m (S .stores) (S .cycles) (S .done), S .cost)))
+      (S .goes)

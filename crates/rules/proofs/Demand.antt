@@ -1,0 +1,44 @@
+-- Demand 3: an accepted routine comes home, whatever the data and the budget.
+-- Assumes nothing.
+use Prim.Native.Nat.{ℕ, _-_}
+use mathlib.Core.Path.{_≡_, sym, ap}
+use mathlib.Core.List.{List}
+use native.Mathlib.Omega.{arith}
+use Rattle.registers.specs.declared.Cycles.{Cycles}
+use Rattle.registers.specs.declared.StackBytes.{StackBytes}
+use Rattle.commands.specs.Number.{AllBytes}
+use Rattle.ticket.specs.Fields.{Fields}
+use Rattle.rules.specs.declared.Verdict.the-variants.{Accept}
+use Rattle.rules.specs.Rules.{Accepted, Certified}
+use Rattle.rules.specs.Checks.{verdictOf}
+use Rattle.rules.proofs.Exact.{accepts-exactly}
+use Rattle.rules.specs.Claim.{Demand3}
+use Rattle.rules.proofs.Only.{only}
+use Rattle.rules.proofs.Budget.{run-home, run-stops}
+use Rattle.rules.proofs.Start.{start-course}
+
+pub comes-home : (f : Fields) (image : List ℕ) (A : Accepted f image) → Demand3 f image (A .start .cost .0) (A .start .need .0)
+comes-home f image A d m L =
+    let c = start-course f image A d m L in
+    record {
+      deeds = c .deeds;
+      last = c .last;
+      memory = c .memory;
+      along = c .along;
+      home = c .home;
+      only = λ ds e n w h. only (c .along) (c .home) w h;
+      in-time = c .in-time;
+      empty = c .empty;
+      safe = c .safe;
+      covered = run-home (L .whole) (c .along) (c .home);
+      uncovered = run-stops (L .whole) (c .along);
+    }
+
+-- over the verdict of a ticket's and an image's bytes
+pub demand-3 : (ticket image : List ℕ) → AllBytes ticket → (e : ℕ) (c : Cycles) (s : StackBytes) → verdictOf ticket image ≡ Accept e c s
+    → (C : Certified ticket image e c s) × Demand3 (C .fields) image (c .0) (s .0 - 2)
+demand-3 ticket image bytes e c s v =
+    let C = accepts-exactly ticket image bytes e c s .0 v in
+    let cost : C .accepted .start .cost .0 ≡ c .0 = ap (λ (x : Cycles). x .0) (sym (C .cost-is)) in
+    let need : C .accepted .start .need .0 ≡ s .0 - 2 = omega (arith, C .stack-is) in
+    (C, rw (cost, need) at (comes-home (C .fields) image (C .accepted)))

@@ -1,0 +1,17 @@
+pub mod Passes
+pub mod MarkChecks
+pub mod Sound
+pub mod Complete
+pub mod Exact
+pub mod Obeys
+pub mod SameShape
+pub mod Memory
+pub mod Marks
+pub mod Frames
+pub mod Placed
+pub mod Ready
+pub mod Course
+pub mod Start
+pub mod Only
+pub mod Budget
+pub mod Demand

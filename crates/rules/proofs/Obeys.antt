@@ -1,0 +1,115 @@
+-- What a step does, by the shape of the instruction that memory has at PC: PC, SP, stores and cycles, whatever the values.
+-- Assumes nothing.
+use Prim.Native.Nat.{ℕ, _+_, _-_, _/_, _%_, _≤_, _<_}
+use mathlib.Core.Path.{_≡_, refl, ap}
+use mathlib.Core.Bool.{Bool, true, false}
+use mathlib.Core.Logic.{_⊎_, inl, inr}
+use mathlib.Core.List.{List, [], _∷_}
+use native.Mathlib.Omega.{arith}
+use lib.ListN.{length}
+use borrow.Author.Tests.{eq-eqb}
+use Rattle.registers.specs.Word.{plus, less}
+use Rattle.registers.specs.Registers.{withPc}
+use Rattle.registers.specs.declared.Registers.{Registers}
+use Rattle.memory.specs.Memory.{Store, store, wordAt}
+use Rattle.opcodes.specs.Decode.{pick, placeIn, decodeOf}
+use Rattle.opcodes.specs.Form.{formOf, waits}
+use Rattle.opcodes.specs.Tables.{lengthAt, cyclesAt}
+use Rattle.opcodes.specs.declared.instruction.Address.the-variants.{Fixed, IndexedX, IndexedY}
+use Rattle.opcodes.specs.declared.instruction.Decoded.{Decoded}
+use Rattle.opcodes.specs.declared.instruction.Decoded.the-variants.{Instruction, Nothing}
+use Rattle.opcodes.specs.declared.form.Form.{Form}
+use Rattle.opcodes.specs.declared.form.Form.the-variants.{Computes, StoresByte, StoresWord, PushesByte, PushesWord, PullsByte, PullsWord, Reserves, Releases, Branches, Jumps, Calls, Returns, MovesSp, Interrupts, Resumes, Waits}
+use Rattle.instructions.specs.Operand.{addressOf, readsOf, inputOf, maskOf}
+use Rattle.instructions.specs.Outcome.{Outcome, outcomeOf}
+use Rattle.instructions.specs.Effect.{effectBy, effectWith, effectOf}
+use Rattle.stepper.specs.Step.{Did, did, fetched, executed, carriedOut, didIf, didOf, after, stepOf}
+use Rattle.stepper.proofs.Costs.{step-cost}
+use Rattle.ticket.specs.Rules.{Every, none, more}
+use Rattle.rules.specs.Shape.{Shape, ordinary, call, return, forbidden, nothing, shapeBy, shapeIn, shapeOf}
+use Rattle.rules.specs.Trace.{calls, returns, plain, kindBy, kindIn, kindOf}
+
+-- some element of a list has a property
+abbrev pub Some : (ℕ → Type 0) → List ℕ → Type 0
+Some P [] = ⊥
+Some P (a ∷ l) = P a ⊎ Some P l
+
+-- a store of an ordinary instruction: on the stack from SP down, above the SP that it leaves, or to one of the addresses written
+abbrev pub Stored : Registers → (pushed pulled : ℕ) → List ℕ → Store → Type 0
+Stored r pushed pulled written w = ((i : ℕ) × (i + pulled < pushed) × (w .at ≡ less (r .sp) i)) ⊎ Some (λ a. w .at ≡ a) written
+
+abbrev pub Obeys : Shape → Registers → List ℕ → Type 0
+Obeys (ordinary next pushed pulled written k) r m =
+    (q : Registers) × (ws : List Store) × (didOf r m ≡ did q ws k) × (kindOf m (r .pc) ≡ plain) × Some (λ a. q .pc ≡ a) next
+    × (q .sp ≡ (r .sp + pulled + (65536 - pushed)) % 65536) × Every (Stored r pushed pulled written) ws
+Obeys (call target after k) r m =
+    (q : Registers) × (didOf r m ≡ did q (store (r .sp) (after % 256) ∷ store (less (r .sp) 1) (after / 256) ∷ []) k)
+    × (kindOf m (r .pc) ≡ calls) × (q .pc ≡ target) × (q .sp ≡ less (r .sp) 2)
+Obeys (return k) r m =
+    (q : Registers) × (didOf r m ≡ did q [] k) × (kindOf m (r .pc) ≡ returns) × (q .pc ≡ wordAt m (plus (r .sp) 1)) × (q .sp ≡ plus (r .sp) 2)
+Obeys forbidden r m = Unit
+Obeys nothing r m = Unit
+
+-- a branch goes one of its two ways
+either : (b : Bool) (t next : ℕ) → Some (λ a. pick b t next ≡ a) (t ∷ next ∷ [])
+either true t next = inl refl
+either false t next = inr (inl refl)
+
+module _ (r : Registers) (m : List ℕ) (low : r .sp < 65536) where
+  -- an instruction that keeps SP
+  kept : r .sp ≡ (r .sp + 0 + (65536 - 0)) % 65536
+  kept = omega arith
+
+  -- the first byte pushed goes to SP
+  top : (n v : ℕ) → 0 < n → Stored r n 0 [] (store (r .sp) v)
+  unfolding less
+  top n v h = inl (0, omega arith, omega arith)
+
+  -- next is the address after the instruction; w is what it computed, which does not matter
+  by-form : (g : Form) (next k : ℕ) (w : Outcome) → didOf r m ≡ executed (waits g) (r .pc) (effectWith g (withPc r next) w m) k
+      → kindOf m (r .pc) ≡ kindBy g → Obeys (shapeBy g next k) r m
+  unfolding effectBy addressOf plus less
+  by-form Computes next k w e h = (_, _, e, h, inl refl, kept, none)
+  by-form (StoresByte (Fixed a)) next k w e h = (_, _, e, h, inl refl, kept, more (inr (inl refl)) none)
+  by-form (StoresByte (IndexedX d)) next k w e h = tt
+  by-form (StoresByte (IndexedY d)) next k w e h = tt
+  by-form (StoresWord (Fixed a)) next k w e h = (_, _, e, h, inl refl, kept, more (inr (inl refl)) (more (inr (inr (inl refl))) none))
+  by-form (StoresWord (IndexedX d)) next k w e h = tt
+  by-form (StoresWord (IndexedY d)) next k w e h = tt
+  by-form PushesByte next k w e h = (_, _, e, h, inl refl, omega arith, more (top 1 (w .value) (omega arith)) none)
+  by-form PushesWord next k w e h =
+      (_, _, e, h, inl refl, omega arith, more (top 2 (w .value % 256) (omega arith)) (more (inl (1, omega arith, refl)) none))
+  by-form PullsByte next k w e h = (_, _, e, h, inl refl, omega arith, none)
+  by-form PullsWord next k w e h = (_, _, e, h, inl refl, omega arith, none)
+  by-form Reserves next k w e h = (_, _, e, h, inl refl, omega arith, none)
+  by-form Releases next k w e h = (_, _, e, h, inl refl, omega arith, none)
+  by-form (Branches t) next k w e h = (_, _, e, h, either (w .taken) t next, kept, none)
+  by-form (Jumps (Fixed a)) next k w e h = (_, _, e, h, inl refl, kept, none)
+  by-form (Jumps (IndexedX d)) next k w e h = tt
+  by-form (Jumps (IndexedY d)) next k w e h = tt
+  by-form (Calls (Fixed a)) next k w e h = (_, e, h, refl, refl)
+  by-form (Calls (IndexedX d)) next k w e h = tt
+  by-form (Calls (IndexedY d)) next k w e h = tt
+  by-form Returns next k w e h = (_, e, h, refl, refl)
+  by-form MovesSp next k w e h = tt
+  by-form Interrupts next k w e h = tt
+  by-form Resumes next k w e h = tt
+  by-form Waits next k w e h = tt
+
+  by-decoded : (p : ℕ) (d : Decoded) → didOf r m ≡ carriedOut p d r m → kindOf m (r .pc) ≡ kindIn p d (r .pc) → Obeys (shapeIn p d (r .pc)) r m
+  unfolding carriedOut effectOf
+  by-decoded p Nothing e h = tt
+  by-decoded p (Instruction a o) e h =
+      let next = plus (r .pc) (lengthAt p) in
+      let q = withPc r next in
+      by-form (formOf a o next) next (cyclesAt p) (outcomeOf a (maskOf o) (inputOf (readsOf a) o q m) q) e h
+
+pub obeys : (r : Registers) (m : List ℕ) → length m ≡ 65536 → r .sp < 65536 → Obeys (shapeOf (fetched m (r .pc)) (r .pc)) r m
+unfolding shapeOf didOf kindOf
+obeys r m whole low =
+    let f = fetched m (r .pc) in
+    by-decoded r m low (placeIn f) (decodeOf f) (ap (λ (b : Bool). didIf b r m) (eq-eqb _ _ whole)) refl
+
+pub busy : (r q : Registers) (m : List ℕ) (ws : List Store) (k : ℕ) → didOf r m ≡ did q ws k → 2 ≤ k
+unfolding stepOf
+busy r q m ws k e = step-cost r m q (record { 0 = k }) (ap (λ (d : Did). after d m .answer) e)

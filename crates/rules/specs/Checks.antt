@@ -1,0 +1,161 @@
+-- The verdict: document 01's causes in its order, each a test; the first that fails is the answer, with its number and place.
+-- Assumes nothing.
+use Prim.Native.Nat.{ℕ, _+_}
+use mathlib.Core.Bool.{Bool, true, false, _&&_}
+use mathlib.Core.List.{List, [], _∷_, _++_}
+use mathlib.Core.Option.{Option, none, some}
+use lib.Dec.{eqb, leb}
+use lib.ListN.{length}
+use Rattle.opcodes.specs.Decode.{pick}
+use Rattle.commands.specs.Cause.{pastOf, holds}
+use Rattle.commands.specs.declared.command.Claim.{Claim}
+use Rattle.ticket.specs.declared.fields.Mark.{Mark}
+use Rattle.ticket.specs.Fields.{Fields, Outcome, read, refused}
+use Rattle.ticket.specs.Read.{refusal, readOf}
+use Rattle.rules.specs.declared.Verdict.{Verdict}
+use Rattle.rules.specs.declared.Verdict.the-variants.{Accept, Refuse}
+use Rattle.rules.specs.Shape.{Shape, ordinary, call, return, forbidden, nothing, shapeOf, sizeOf}
+use Rattle.rules.specs.Marks.{claimAt, imageFrom}
+
+-- a test, with the number of its cause and its place
+pub record Check : Type 0 where
+  pub number : ℕ
+  pub place : ℕ
+  pub passes : Bool
+
+abbrev pub check : ℕ → ℕ → Bool → Check
+check n p b = record { number = n; place = p; passes = b }
+
+-- the first that fails, or what follows if none does
+abbrev pub firstOf : List Check → Verdict → Verdict
+firstOf [] v = v
+firstOf (c ∷ cs) v = pick (c .passes) (firstOf cs v) (Refuse (refusal (c .number) (c .place)))
+
+abbrev pub all : (ℕ → Bool) → List ℕ → Bool
+all p [] = true
+all p (a ∷ l) = p a && all p l
+
+abbrev pub isMarked : Option Claim → Bool
+isMarked none = false
+isMarked (some c) = true
+
+-- a test of the claim at an address; where there is none, cause 14 or 18 says so
+abbrev pub onMark : (Claim → Bool) → Option Claim → Bool
+onMark p none = true
+onMark p (some c) = p c
+
+abbrev pub exists : Shape → Bool
+exists (ordinary next pushed pulled written cycles) = true
+exists (call target after cycles) = true
+exists (return cycles) = true
+exists forbidden = true
+exists nothing = false
+
+abbrev pub allowed : Shape → Bool
+allowed (ordinary next pushed pulled written cycles) = true
+allowed (call target after cycles) = true
+allowed (return cycles) = true
+allowed forbidden = false
+allowed nothing = true
+
+module _ (f : Fields) (k : Claim) where
+  abbrev pub writesInData : Shape → Bool
+  writesInData (ordinary next pushed pulled written cycles) = all (holds (f .header .«data»)) written
+  writesInData (call target after cycles) = true
+  writesInData (return cycles) = true
+  writesInData forbidden = true
+  writesInData nothing = true
+
+  abbrev pub pullsWithinDepth : Shape → Bool
+  pullsWithinDepth (ordinary next pushed pulled written cycles) = leb pulled (k .depth .0)
+  pullsWithinDepth (call target after cycles) = true
+  pullsWithinDepth (return cycles) = eqb (k .depth .0) 0
+  pullsWithinDepth forbidden = true
+  pullsWithinDepth nothing = true
+
+  abbrev pub nextMarked : Shape → Bool
+  nextMarked (ordinary next pushed pulled written cycles) = all (λ a. isMarked (claimAt (f .marks) a)) next
+  nextMarked (call target after cycles) = isMarked (claimAt (f .marks) target) && isMarked (claimAt (f .marks) after)
+  nextMarked (return cycles) = true
+  nextMarked forbidden = true
+  nextMarked nothing = true
+
+  abbrev pub depthsAgree : Shape → Bool
+  depthsAgree (ordinary next pushed pulled written cycles) =
+      all (λ a. onMark (λ c. eqb (c .depth .0 + pulled) (k .depth .0 + pushed)) (claimAt (f .marks) a)) next
+  depthsAgree (call target after cycles) =
+      onMark (λ c. eqb (c .depth .0) 0) (claimAt (f .marks) target) && onMark (λ c. eqb (c .depth .0) (k .depth .0)) (claimAt (f .marks) after)
+  depthsAgree (return cycles) = true
+  depthsAgree forbidden = true
+  depthsAgree nothing = true
+
+  abbrev pub costCovers : Shape → Bool
+  costCovers (ordinary next pushed pulled written cycles) =
+      all (λ a. onMark (λ c. leb (cycles + c .cost .0) (k .cost .0)) (claimAt (f .marks) a)) next
+  costCovers (call target after cycles) =
+      onMark (λ t. onMark (λ b. leb (cycles + t .cost .0 + b .cost .0) (k .cost .0)) (claimAt (f .marks) after)) (claimAt (f .marks) target)
+  costCovers (return cycles) = leb cycles (k .cost .0)
+  costCovers forbidden = true
+  costCovers nothing = true
+
+  abbrev pub needCovers : Shape → Bool
+  needCovers (ordinary next pushed pulled written cycles) =
+      all (λ a. onMark (λ c. leb (pushed + c .need .0) (k .need .0 + pulled)) (claimAt (f .marks) a)) next
+  needCovers (call target after cycles) =
+      onMark (λ c. leb (2 + c .need .0) (k .need .0)) (claimAt (f .marks) target) && onMark (λ c. leb (c .need .0) (k .need .0)) (claimAt (f .marks) after)
+  needCovers (return cycles) = true
+  needCovers forbidden = true
+  needCovers nothing = true
+
+-- causes 10 to 17, at a mark; `inside` says that the instruction does not leave the code window
+abbrev pub checksBy : Fields → Mark → Shape → Bool → List Check
+checksBy f m s inside =
+    check 10 (m .address) (exists s && inside)
+    ∷ check 11 (m .address) (allowed s)
+    ∷ check 12 (m .address) (writesInData f (m .claim) s)
+    ∷ check 13 (m .address) (pullsWithinDepth f (m .claim) s)
+    ∷ check 14 (m .address) (nextMarked f (m .claim) s)
+    ∷ check 15 (m .address) (depthsAgree f (m .claim) s)
+    ∷ check 16 (m .address) (costCovers f (m .claim) s)
+    ∷ check 17 (m .address) (needCovers f (m .claim) s)
+    ∷ []
+
+unfoldable pub checksAt : Fields → List ℕ → Mark → List Check
+checksAt f image m =
+    let bytes = imageFrom (f .header .code) image (m .address) in
+    checksBy f m (shapeOf bytes (m .address)) (leb (m .address + sizeOf bytes) (pastOf (f .header .code)))
+
+-- in rising address, as the marks are
+abbrev pub checksOfMarks : Fields → List ℕ → List Mark → List Check
+checksOfMarks f image [] = []
+checksOfMarks f image (m ∷ ms) = checksAt f image m ++ checksOfMarks f image ms
+
+abbrev pub wholeChecks : Fields → List Check
+wholeChecks f =
+    let entry = f .header .entry in
+    let claim = claimAt (f .marks) entry in
+    check 18 entry (isMarked claim && onMark (λ c. eqb (c .depth .0) 0) claim)
+    ∷ check 19 entry (onMark (λ c. leb (c .cost .0) (f .header .limit .0)) claim)
+    ∷ check 20 entry (onMark (λ c. leb (c .need .0 + 2) (f .header .stack .length)) claim)
+    ∷ []
+
+abbrev pub checksOf : Fields → List ℕ → List Check
+checksOf f image =
+    check 9 0 (eqb (length image) (f .header .code .length))
+    ∷ (checksOfMarks f image (f .marks) ++ wholeChecks f)
+
+-- where no check fails there is a claim at the entry
+abbrev pub acceptOf : ℕ → Option Claim → Verdict
+acceptOf entry none = Refuse (refusal 18 entry)
+acceptOf entry (some c) = Accept entry (c .cost) (record { 0 = c .need .0 + 2 })
+
+unfoldable pub judgedOf : Fields → List ℕ → Verdict
+judgedOf f image = firstOf (checksOf f image) (acceptOf (f .header .entry) (claimAt (f .marks) (f .header .entry)))
+
+abbrev pub verdictBy : Outcome → List ℕ → Verdict
+verdictBy (refused r) image = Refuse r
+verdictBy (read f) image = judgedOf f image
+
+-- of a ticket's bytes and an image's: 1 to 8 from reading, then 9, then 10 to 17 at each mark, then 18 to 20
+unfoldable pub verdictOf : List ℕ → List ℕ → Verdict
+verdictOf ticket image = verdictBy (readOf ticket) image

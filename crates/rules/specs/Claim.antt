@@ -1,0 +1,90 @@
+-- Demand 3 as a statement about `stepOf`'s instructions and `runOf`: an accepted routine comes home.
+-- Assumes nothing.
+use Prim.Native.Nat.{ℕ, _+_, _-_, _≤_, _<_}
+use mathlib.Core.Path.{_≡_}
+use mathlib.Core.Logic.{_⊎_}
+use mathlib.Core.List.{List, [], _∷_, _++_}
+use lib.ListN.{length, getD}
+use Rattle.registers.specs.declared.Data.{Data}
+use Rattle.registers.specs.declared.Registers.{Registers}
+use Rattle.registers.specs.Registers.{startOf}
+use Rattle.memory.specs.Memory.{Store, byteAt}
+use Rattle.stepper.specs.Answer.{home, spent}
+use Rattle.stepper.specs.Run.{AfterRun, runOf}
+use Rattle.ticket.specs.Fields.{Fields}
+use Rattle.ticket.specs.Rules.{Every, In}
+use Rattle.rules.specs.Trace.{Deed, total, Along, inUseAfter}
+
+-- T, the stack window's last address
+abbrev pub topOf : Fields → ℕ
+topOf f = f .header .stack .start + f .header .stack .length - 1
+
+-- document 01's start: the image fills the code window, home goes in as two zero bytes at T and T - 1, and every other byte is free
+pub record Loaded (f : Fields) (image m : List ℕ) : Type 0 where
+  pub whole : length m ≡ 65536
+  pub code : (i : ℕ) → i < length image → byteAt m (f .header .code .start + i) ≡ getD image i 0
+  pub home-low : byteAt m (topOf f) ≡ 0
+  pub home-high : byteAt m (topOf f - 1) ≡ 0
+
+-- a byte that is written lies in the data or the stack window, is no code byte and no byte of a return address in use
+pub record Spares (f : Fields) (used : List (List ℕ)) (w : Store) : Type 0 where
+  pub inside : In (f .header .«data») (w .at) ⊎ In (f .header .stack) (w .at)
+  pub code : In (f .header .code) (w .at) → ⊥
+  pub returns : Every (Every (λ a. w .at ≡ a → ⊥)) used
+
+-- after an instruction SP lies from one below the stack window to T, and never more than need below the start's
+pub record Keeps (f : Fields) (need : ℕ) (used : List (List ℕ)) (d : Deed) : Type 0 where
+  pub spares : Every (Spares f used) (d .stores)
+  pub sp-low : f .header .stack .start ≤ d .sp + 1
+  pub sp-high : d .sp ≤ topOf f
+  pub sp-need : topOf f ≤ d .sp + 2 + need
+
+abbrev pub Safe : Fields → ℕ → List (List ℕ) → List Deed → Type 0
+Safe f need used [] = Unit
+Safe f need used (d ∷ ds) = Keeps f need used d × Safe f need (inUseAfter (d .kind) (d .stores) used) ds
+
+-- home's two bytes are in use from the start
+abbrev pub homePair : Fields → List ℕ
+homePair f = topOf f ∷ (topOf f - 1) ∷ []
+
+-- the answer of a run, with the memory
+abbrev pub ranHome : Registers → List ℕ → ℕ → AfterRun
+ranHome q n k = record { answer = home q (record { 0 = k }); memory = n }
+
+abbrev pub ranSpent : Registers → List ℕ → ℕ → AfterRun
+ranSpent q n k = record { answer = spent q (record { 0 = k }); memory = n }
+
+-- where the budget b does not cover a trace: the run goes along it as far as the budget does
+pub record Stops (r : Registers) (m : List ℕ) (deeds : List Deed) (b : ℕ) : Type 0 where
+  pub before : List Deed
+  pub next : Deed
+  pub rest : List Deed
+  pub parts : deeds ≡ before ++ (next ∷ rest)
+  pub registers : Registers
+  pub memory : List ℕ
+  pub along : Along r m before registers memory
+  pub covered : total before ≤ b
+  pub uncovered : b < total before + next .cycles
+  pub answer : runOf r m b ≡ ranSpent registers memory (total before)
+
+-- from the registers r and the memory m, where cost and need are the entry's
+pub record ComesHome (f : Fields) (cost need : ℕ) (r : Registers) (m : List ℕ) : Type 0 where
+  -- the way home: the instructions, and the registers and the memory reached
+  pub deeds : List Deed
+  pub last : Registers
+  pub memory : List ℕ
+  pub along : Along r m deeds last memory
+  pub home : last .pc ≡ 0
+  -- it is the only one
+  pub only : (ds : List Deed) (e : Registers) (n : List ℕ) → Along r m ds e n → e .pc ≡ 0 → (ds ≡ deeds) × (e ≡ last) × (n ≡ memory)
+  -- it ends within the certified cycles, with an empty stack
+  pub in-time : total deeds ≤ cost
+  pub empty : last .sp ≡ topOf f
+  pub safe : Safe f need (homePair f ∷ []) deeds
+  -- the run, for every budget
+  pub covered : (b : ℕ) → total deeds ≤ b → runOf r m b ≡ ranHome last memory (total deeds)
+  pub uncovered : (b : ℕ) → b < total deeds → Stops r m deeds b
+
+-- of an accepted ticket and image, for all A, B, X, Y and flags and all memory outside the code and home bytes
+abbrev pub Demand3 : Fields → List ℕ → ℕ → ℕ → Type 0
+Demand3 f image cost need = (d : Data) (m : List ℕ) → Loaded f image m → ComesHome f cost need (startOf d (f .header .entry) (topOf f)) m

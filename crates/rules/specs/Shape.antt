@@ -1,0 +1,78 @@
+-- What the ticket rules ask of an instruction, by its form (document 01, "Rules at a mark").
+-- Assumes nothing.
+use Prim.Native.Nat.{ℕ}
+use mathlib.Core.List.{List, [], _∷_}
+use Rattle.registers.specs.Word.{plus}
+use Rattle.opcodes.specs.Tables.{lengthAt, cyclesAt}
+use Rattle.opcodes.specs.Decode.{Bytes, placeIn, decodeOf}
+use Rattle.opcodes.specs.Form.{formOf}
+use Rattle.opcodes.specs.declared.instruction.Address.{Address}
+use Rattle.opcodes.specs.declared.instruction.Address.the-variants.{Fixed, IndexedX, IndexedY}
+use Rattle.opcodes.specs.declared.instruction.Decoded.{Decoded}
+use Rattle.opcodes.specs.declared.instruction.Decoded.the-variants.{Instruction, Nothing}
+use Rattle.opcodes.specs.declared.form.Form.{Form}
+use Rattle.opcodes.specs.declared.form.Form.the-variants.{Computes, StoresByte, StoresWord, PushesByte, PushesWord, PullsByte, PullsWord, Reserves, Releases, Branches, Jumps, Calls, Returns, MovesSp, Interrupts, Resumes, Waits}
+
+pub data Shape : Type 0 where
+  -- the addresses that may come next; bytes pushed; bytes pulled; the addresses that a direct or extended write stores to; cycles
+  ordinary : (next : List ℕ) (pushed pulled : ℕ) (written : List ℕ) (cycles : ℕ) → Shape
+  -- JSR and BSR: the target; the following address; cycles
+  call : (target after cycles : ℕ) → Shape
+  -- RTS: cycles
+  return : (cycles : ℕ) → Shape
+  -- document 01's "kept out"
+  forbidden : Shape
+  nothing : Shape
+
+-- an instruction that only goes on
+abbrev pub goesOn : ℕ → ℕ → ℕ → ℕ → Shape
+goesOn after pushed pulled k = ordinary (after ∷ []) pushed pulled [] k
+
+-- indexed writes, jumps and calls are forbidden: where they lead is not known
+abbrev pub writes : Address → (ℕ → List ℕ) → ℕ → ℕ → Shape
+writes (Fixed a) bytes after k = ordinary (after ∷ []) 0 0 (bytes a) k
+writes (IndexedX d) bytes after k = forbidden
+writes (IndexedY d) bytes after k = forbidden
+
+abbrev pub jumps : Address → ℕ → Shape
+jumps (Fixed a) k = ordinary (a ∷ []) 0 0 [] k
+jumps (IndexedX d) k = forbidden
+jumps (IndexedY d) k = forbidden
+
+abbrev pub calls : Address → ℕ → ℕ → Shape
+calls (Fixed a) after k = call a after k
+calls (IndexedX d) after k = forbidden
+calls (IndexedY d) after k = forbidden
+
+-- by the form, the address after the instruction and its cycles. DES counts as one pushed, INS as one pulled. LDS, TXS, TYS, SWI, RTI, WAI, STOP and
+-- TEST are forbidden
+abbrev pub shapeBy : Form → ℕ → ℕ → Shape
+shapeBy Computes after k = goesOn after 0 0 k
+shapeBy (StoresByte p) after k = writes p (λ a. a ∷ []) after k
+shapeBy (StoresWord p) after k = writes p (λ a. a ∷ plus a 1 ∷ []) after k
+shapeBy PushesByte after k = goesOn after 1 0 k
+shapeBy PushesWord after k = goesOn after 2 0 k
+shapeBy PullsByte after k = goesOn after 0 1 k
+shapeBy PullsWord after k = goesOn after 0 2 k
+shapeBy Reserves after k = goesOn after 1 0 k
+shapeBy Releases after k = goesOn after 0 1 k
+shapeBy (Branches t) after k = ordinary (t ∷ after ∷ []) 0 0 [] k
+shapeBy (Jumps p) after k = jumps p k
+shapeBy (Calls p) after k = calls p after k
+shapeBy Returns after k = return k
+shapeBy MovesSp after k = forbidden
+shapeBy Interrupts after k = forbidden
+shapeBy Resumes after k = forbidden
+shapeBy Waits after k = forbidden
+
+abbrev pub shapeIn : ℕ → Decoded → ℕ → Shape
+shapeIn p Nothing a = nothing
+shapeIn p (Instruction act o) a = let after = plus a (lengthAt p) in shapeBy (formOf act o after) after (cyclesAt p)
+
+-- of the instruction at address a, whose bytes are f; the step decodes with the same definition
+unfoldable pub shapeOf : Bytes → ℕ → Shape
+shapeOf f a = shapeIn (placeIn f) (decodeOf f) a
+
+-- how many bytes it has
+unfoldable pub sizeOf : Bytes → ℕ
+sizeOf f = lengthAt (placeIn f)
