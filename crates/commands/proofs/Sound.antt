@@ -4,7 +4,7 @@ use Prim.Native.Nat.{ℕ, _+_, _-_, _≤_, _<_}
 use native.Mathlib.Nat.{eq-zero-or-pos}
 use native.Mathlib.Omega.{arith}
 use mathlib.Core.Logic.{⊎-elim}
-use mathlib.Core.Path.{_≡_, refl, ap, subst}
+use mathlib.Core.Path.{_≡_, refl, ap}
 use mathlib.Core.Bool.{Bool, true, false, _||_}
 use lib.Dec.{eqb, ltb, leb}
 use borrow.Author.Tests.{ltb-true, leb-true, eqb-true, ne-eqb}
@@ -123,13 +123,6 @@ module _ (p : Prefix) (c : Command) (s : Sound p) where
   admitted : SoundSoFar (admitOf p c)
   unfolding admitOf
   admitted = picked _ _ refl
-
--- a prefix so far that is not refused
-pub in-next : {q : Prefix} → SoundSoFar (Next q) → Sound q
-in-next (sound s) = s
-
-pub sound-admit : (p : Prefix) (c : Command) {q : Prefix} → Sound p → admitOf p c ≡ Next q → Sound q
-sound-admit p c s e = in-next (subst SoundSoFar e (admitted p c s))
 
 pub sound-then : (a : Admitted) (c : Command) → SoundSoFar a → SoundSoFar (thenOf a c)
 sound-then (Refused r) c stopped = stopped
