@@ -1,5 +1,5 @@
 /*
- * The 68HC11 stepper for the press monitor. Link with libmonitor.a, which `rt staticlib monitor` writes to target/staticlib/.
+ * The 68HC11 stepper, the verdict on a routine and its start, for the press monitor. Link with libmonitor.a, which `rt staticlib monitor` writes to target/staticlib/.
  *
  * Registers are 11 bytes, words high byte first; the offsets are below. The flags are S X H I N Z V C from bit 7 to bit 0.
  * Memory is 65,536 bytes: the byte at address n has index n, and every address wraps.
@@ -32,6 +32,7 @@ extern "C" {
 /* Outcomes. A refusal has its number in the specification; its place is written to *place. */
 #define JUGROND_DONE 0            /* a reset or a step was done */
 #define JUGROND_HOME 0            /* a run reached PC $0000 */
+#define JUGROND_ACCEPTED 0        /* a routine was accepted, or accepted and started */
 #define JUGROND_BAD_LENGTH 21     /* registers not 11 bytes, or memory not 65,536; place 0 */
 #define JUGROND_NO_INSTRUCTION 22 /* no such instruction; place PC */
 #define JUGROND_WAITS 23          /* WAI, STOP or TEST; place PC */
@@ -62,6 +63,26 @@ uint32_t jugrond_step(uint8_t *registers, size_t registers_length, uint8_t *memo
  */
 uint32_t jugrond_run(uint8_t *registers, size_t registers_length, uint8_t *memory, size_t memory_length, uint32_t budget,
                      uint32_t *cycles, uint16_t *place);
+
+/*
+ * Judges a routine by its ticket and its image.
+ * Outcomes: JUGROND_ACCEPTED, with its entry, its certified cycles in *cost and its stack bytes in *stack; 1 to 20, the specification's number of the
+ * first cause for which it is refused, with that cause's place (for 1 to 8 an offset in the ticket, from 10 on an address).
+ * An accepted routine that is started as jugrond_start does comes home within *cost cycles, whatever the data.
+ * All four numbers are written in every case: those that say nothing are 0.
+ */
+uint32_t jugrond_verdict(const uint8_t *ticket, size_t ticket_length, const uint8_t *image, size_t image_length, uint16_t *entry,
+                         uint32_t *cost, uint16_t *stack, uint32_t *place);
+
+/*
+ * Judges a routine and, where it is accepted, starts it: the image goes to the code window, two zero bytes to the end of the stack window, SP below
+ * them and PC to the entry. A, B, X, Y, flags and every other byte of memory stay as they are lent. jugrond_run then brings it home.
+ * Outcomes: JUGROND_ACCEPTED; JUGROND_BAD_LENGTH, looked at first; 1 to 20 as jugrond_verdict. Unless it is accepted, no register and no byte of
+ * memory is changed.
+ * *place is written in every case; it is 0 where nothing is refused.
+ */
+uint32_t jugrond_start(const uint8_t *ticket, size_t ticket_length, const uint8_t *image, size_t image_length, uint8_t *registers,
+                       size_t registers_length, uint8_t *memory, size_t memory_length, uint32_t *place);
 
 #ifdef __cplusplus
 }

@@ -1,4 +1,1 @@
-pub mod Eleven
-pub mod RoundTrip
-pub mod Sized
-pub mod Agrees
+pub mod StartedHome

@@ -1,11 +1,16 @@
-// The press monitor's C calls: thin entries over the stepper, on numbers and byte slices. Each takes any input. Their header is
+// The press monitor's C calls: thin entries over the stepper and the verdict, on numbers and byte slices. Each takes any input. Their header is
 // include/jugrond.h.
 ghost use mathlib.Core.Path.{_≡_};
-ghost use Rattle.monitor.specs.Calls.{called, resetBytesOf, stepBytesOf, runBytesOf};
+ghost use Rattle.rules.specs.Checks.{verdictOf};
+ghost use Rattle.verdict.specs.Promise.{Promised};
+ghost use Rattle.registerbytes.specs.Calls.{called, resetBytesOf, stepBytesOf, runBytesOf};
+ghost use Rattle.monitor.specs.Routine.{judged, ofVerdict, beginning, startBytesOf, StartedBytesComeHome};
+use registerbytes::bytes::pack;
+use registerbytes::calls;
 use registers::Registers;
+use verdict::verdict;
 
-mod bytes; // the registers as 11 bytes
-mod calls; // a step and a run on register bytes
+mod routine; // the verdict and the start as numbers
 
 #[no_mangle]
 pub extern "C" fn jugrond_reset(regs: &mut [u8]) -> u32
@@ -14,7 +19,7 @@ pub extern "C" fn jugrond_reset(regs: &mut [u8]) -> u32
     if regs.len() != 11 {
         return calls::BAD_LENGTH;
     }
-    bytes::pack(Registers::reset(), regs);
+    pack(Registers::reset(), regs);
     calls::DONE
 }
 
@@ -49,6 +54,44 @@ pub extern "C" fn jugrond_run(
 {
     let a = calls::run_on(regs, mem, budget);
     *cycles = a.cycles;
+    *place = a.place;
+    a.outcome
+}
+
+// The verdict on a routine. `entry`, `cost`, `stack` and `place` are written in every case.
+#[no_mangle]
+pub extern "C" fn jugrond_verdict(
+    ticket: &[u8],
+    image: &[u8],
+    entry: &mut u16,
+    cost: &mut u32,
+    stack: &mut u16,
+    place: &mut u32,
+) -> u32
+    ensures { λ q. ⌜ (judged q (now (entry .exit)) (now (cost .exit)) (now (stack .exit)) (now (place .exit)) ≡ ofVerdict (verdictOf (now (ticket .entry)) (now (image .entry))))
+        × Promised (now (ticket .entry)) (now (image .entry)) ⌝ }
+{
+    let a = routine::judgement_of(verdict(ticket, image));
+    *entry = a.entry;
+    *cost = a.cost;
+    *stack = a.stack;
+    *place = a.place;
+    a.outcome
+}
+
+// Judges a routine and, where it is accepted, starts it with A, B, X, Y and flags as they are lent: what is started comes home. `place` is written in every case.
+#[no_mangle]
+pub extern "C" fn jugrond_start(
+    ticket: &[u8],
+    image: &[u8],
+    regs: &mut [u8],
+    mem: &mut [u8],
+    place: &mut u32,
+) -> u32
+    ensures { λ q. ⌜ (beginning q (now (place .exit)) (now (regs .exit)) (now (mem .exit)) ≡ startBytesOf (now (ticket .entry)) (now (image .entry)) (now (regs .entry)) (now (mem .entry)))
+        × StartedBytesComeHome (now (ticket .entry)) (now (image .entry)) (now (regs .entry)) (now (mem .entry)) ⌝ }
+{
+    let a = routine::start_on(ticket, image, regs, mem);
     *place = a.place;
     a.outcome
 }

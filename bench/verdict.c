@@ -1,0 +1,34 @@
+/* One call of the verdict on the two files that are named, for callgrind to count. Prints what was answered. */
+#include "jugrond.h"
+
+#include <inttypes.h>
+#include <stdio.h>
+
+static uint8_t image[65536], ticket[65536];
+
+static size_t load(const char *name, uint8_t *to)
+{
+    FILE *f = fopen(name, "rb");
+    size_t n;
+
+    if (f == NULL)
+        return 0;
+    n = fread(to, 1, 65536, f);
+    fclose(f);
+    return n;
+}
+
+int main(int count, char **names)
+{
+    uint16_t entry, stack;
+    uint32_t cost, place, outcome;
+    size_t image_length, ticket_length;
+
+    if (count != 3)
+        return 2;
+    image_length = load(names[1], image);
+    ticket_length = load(names[2], ticket);
+    outcome = jugrond_verdict(ticket, ticket_length, image, image_length, &entry, &cost, &stack, &place);
+    printf("%" PRIu32 " %" PRIu32 "\n", outcome, place);
+    return outcome == JUGROND_ACCEPTED ? 0 : 1;
+}

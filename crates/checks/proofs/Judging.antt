@@ -1,0 +1,57 @@
+-- The verdict on fields as the code computes it: by the image's length, mark by mark, and then by the whole.
+-- Assumes nothing.
+use Prim.Native.Nat.{ℕ, suc, _+_, _<_}
+use mathlib.Core.Path.{_≡_}
+use mathlib.Core.Bool.{Bool}
+use mathlib.Core.List.{List, _++_}
+use lib.Dec.{leb}
+use lib.ListN.{length, getD, drop}
+use lib.Seq.{drop-cons, drop-length}
+use borrow.Author.Tests.{eq-eqb, ne-eqb}
+use Rattle.commands.specs.Cause.{pastOf}
+use Rattle.ticket.specs.declared.fields.Mark.{Mark}
+use Rattle.ticket.specs.Fields.{Fields, blankMark}
+use Rattle.ticket.specs.Read.{refusal}
+use Rattle.rules.specs.declared.Verdict.{Verdict}
+use Rattle.rules.specs.declared.Verdict.the-variants.{Refuse}
+use Rattle.rules.specs.Marks.{claimAt, imageFrom}
+use Rattle.rules.specs.Shape.{shapeOf, sizeOf}
+use Rattle.rules.specs.Checks.{firstOf, checksAt, checksOfMarks, wholeChecks, acceptOf, judgedOf}
+use Rattle.shapes.specs.declared.shape.Shape.{Shape}
+use Rattle.shapes.specs.Said.{shapeSaid}
+use Rattle.checks.specs.declared.cause.Marked.{Marked}
+use Rattle.checks.specs.Cause.{markedSaid, causeOf}
+use Rattle.checks.specs.Whole.{wholeOf}
+use Rattle.checks.specs.Sight.{firstNext, secondNext}
+use Rattle.checks.proofs.MarkCause.{causeThen, mark-cause}
+use Rattle.checks.proofs.WholeCause.{whole-cause}
+
+-- the verdict where the image's length and the first i marks have passed
+unfoldable pub restOf : Fields → List ℕ → ℕ → Verdict
+restOf f image i =
+    firstOf (checksOfMarks f image (drop i (f .marks)) ++ wholeChecks f) (acceptOf (f .header .entry) (claimAt (f .marks) (f .header .entry)))
+
+module _ (f : Fields) (image : List ℕ) where
+  pub judged-short : (length image ≡ f .header .code .length → ⊥) → judgedOf f image ≡ Refuse (refusal 9 0)
+  unfolding judgedOf
+  judged-short h = rw (ne-eqb (length image) (f .header .code .length) h)
+
+  pub judged-start : length image ≡ f .header .code .length → judgedOf f image ≡ restOf f image 0
+  unfolding judgedOf restOf
+  judged-start h = rw (eq-eqb (length image) (f .header .code .length) h)
+
+  pub judged-mark : (i : ℕ) → i < length (f .marks) → (m : Mark) → getD (f .marks) i blankMark ≡ m → (s : Shape) (inside : Bool)
+      → shapeSaid s ≡ shapeOf (imageFrom (f .header .code) image (m .address)) (m .address)
+      → inside ≡ leb (m .address + sizeOf (imageFrom (f .header .code) image (m .address))) (pastOf (f .header .code))
+      → (a b : Marked) → markedSaid a ≡ claimAt (f .marks) (firstNext s) → markedSaid b ≡ claimAt (f .marks) (secondNext s)
+      → (n : ℕ) → n ≡ causeOf (f .header .«data») (m .claim) s inside a b
+      → restOf f image i ≡ causeThen n (m .address) (restOf f image (suc i))
+  unfolding restOf checksAt
+  judged-mark i h m at s inside shaped within a b p q n cause =
+      rw (drop-cons (f .marks) i blankMark h, at, ← shaped, ← within, cause)
+      (mark-cause f m s inside a b p q (checksOfMarks f image (drop (suc i) (f .marks)) ++ wholeChecks f) _)
+
+  pub judged-end : (i : ℕ) → i ≡ length (f .marks) → (a : Marked) → markedSaid a ≡ claimAt (f .marks) (f .header .entry)
+      → restOf f image i ≡ wholeOf (f .header) a
+  unfolding restOf
+  judged-end i h a e = rw (h, drop-length) (whole-cause f a e)

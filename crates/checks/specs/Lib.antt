@@ -1,0 +1,4 @@
+pub mod Find
+pub mod Cause
+pub mod Whole
+pub mod Sight

@@ -1,0 +1,29 @@
+// A whole file in a lent buffer.
+ghost use Rattle.io.specs.Counts.{Counts};
+
+// Whether the whole file is in the buffer, and how many bytes were read.
+pub struct File {
+    pub whole: bool,
+    pub length: usize,
+}
+
+// A file that is longer, or that cannot be opened or read to its end, does not fit. One more byte is asked for: its absence tells the end from a failure, and from more to come.
+pub fn load(name: &[u8], buf: &mut [u8]) -> File
+    ensures { λ r. ⌜ Counts (r .length) (now (buf .exit)) ⌝ }
+{
+    let fd = os::open_read(name);
+    if fd < 0 {
+        return File {
+            whole: false,
+            length: 0,
+        };
+    }
+    let length = io::read_full(fd, buf);
+    let mut more = [0u8; 1];
+    let rest = libc::read(fd, &mut more);
+    libc::close(fd);
+    File {
+        whole: rest == 0,
+        length,
+    }
+}

@@ -1,0 +1,34 @@
+-- On 11 register bytes a call says what the stepper says, of a memory of another length too: the monitor adds no rule of its own.
+-- Assumes nothing.
+use mathlib.Core.Path.{_≡_, refl}
+use mathlib.Core.Bool.{Bool, true, false}
+use mathlib.Core.List.{List}
+use Prim.Native.Nat.{ℕ, _<_}
+use lib.Dec.{eqb}
+use lib.ListN.{length, getD}
+use borrow.Author.Tests.{eq-eqb}
+use Rattle.stepper.specs.Step.{didOf, stepOf}
+use Rattle.stepper.specs.Run.{runOf}
+use Rattle.registerbytes.specs.Bytes.{unpacked}
+use Rattle.registerbytes.specs.Calls.{ofStep, ofRun, stepBytesOf, runBytesOf}
+use Rattle.registerbytes.proofs.RoundTrip.{packed-unpacked}
+
+module _ (rs m : List ℕ) (h : length rs ≡ 11) where
+  step-by : (b : Bool) → eqb (length m) 65536 ≡ b
+      → stepBytesOf rs m ≡ ofStep (stepOf (unpacked rs) m .answer) rs (stepOf (unpacked rs) m .memory)
+  unfolding stepBytesOf stepOf didOf
+  step-by true e = simp (eq-eqb _ _ h, e)
+  step-by false e = simp (eq-eqb _ _ h, e)
+
+  pub step-agrees : stepBytesOf rs m ≡ ofStep (stepOf (unpacked rs) m .answer) rs (stepOf (unpacked rs) m .memory)
+  step-agrees = step-by (eqb (length m) 65536) refl
+
+module _ (rs m : List ℕ) (budget : ℕ) (h : length rs ≡ 11) (bytes : (i : ℕ) → getD rs i 0 < 256) where
+  run-by : (b : Bool) → eqb (length m) 65536 ≡ b
+      → runBytesOf rs m budget ≡ ofRun (runOf (unpacked rs) m budget .answer) (runOf (unpacked rs) m budget .memory)
+  unfolding runBytesOf runOf
+  run-by true e = simp (eq-eqb _ _ h, e)
+  run-by false e = simp (eq-eqb _ _ h, e, packed-unpacked rs bytes h)
+
+  pub run-agrees : runBytesOf rs m budget ≡ ofRun (runOf (unpacked rs) m budget .answer) (runOf (unpacked rs) m budget .memory)
+  run-agrees = run-by (eqb (length m) 65536) refl

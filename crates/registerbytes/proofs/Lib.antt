@@ -1,0 +1,4 @@
+pub mod Eleven
+pub mod RoundTrip
+pub mod Sized
+pub mod Agrees

@@ -1,0 +1,106 @@
+-- A refusal's number is one of document 01's table, 1 to 20.
+-- Assumes nothing.
+use Prim.Native.Nat.{ℕ, zero, suc, _≤_}
+use mathlib.Core.Path.{_≡_}
+use mathlib.Core.Bool.{Bool, true, false}
+use mathlib.Core.List.{List, [], _∷_, _++_}
+use mathlib.Core.Option.{Option, none, some}
+use native.Mathlib.Omega.{arith}
+use lib.Dec.{eqb, leb, eqb·suc-zero}
+use lib.ListN.{length}
+use borrow.Author.Tests.{leb-true}
+use Rattle.opcodes.specs.Decode.{pick}
+use Rattle.commands.specs.Bytes as Bytes
+use Rattle.commands.specs.Cause.{causeOf}
+use Rattle.commands.specs.Prefix.{startOf, afterOf}
+use Rattle.commands.specs.Admit.{admitOf}
+use Rattle.commands.specs.declared.command.Claim.{Claim}
+use Rattle.commands.specs.declared.command.Command.{Command}
+use Rattle.commands.specs.declared.decode.Decoded.{Decoded}
+use Rattle.commands.specs.declared.decode.Decoded.the-variants.{Unknown, Cut, Found}
+use Rattle.commands.specs.declared.prefix.Prefix.{Prefix}
+use Rattle.commands.specs.declared.admit.Admitted.the-variants.{Refused, Next}
+use Rattle.ticket.specs.declared.fields.Mark.{Mark}
+use Rattle.ticket.specs.Fields.{Fields}
+use Rattle.ticket.specs.Read.{refusal, admittedAs, decodedAs, turnOf, endOf, Rest, onward, ifEnded, readFrom, readOf}
+use Rattle.rules.specs.declared.Verdict.{Verdict}
+use Rattle.rules.specs.declared.Verdict.the-variants.{Accept, Refuse}
+use Rattle.rules.specs.Marks.{claimAt}
+use Rattle.rules.specs.Checks.{Check, firstOf, checksAt, checksOfMarks, wholeChecks, checksOf, acceptOf, judgedOf, verdictBy, verdictOf}
+use Rattle.verdict.specs.Promise.{RefusalsNumbered}
+
+abbrev InTable : ℕ → Type 0
+InTable n = (1 ≤ n) × (n ≤ 20)
+
+abbrev OneToTwenty : Verdict → Type 0
+OneToTwenty (Accept entry cost stack) = Unit
+OneToTwenty (Refuse r) = InTable (r .number)
+
+abbrev AllInTable : List Check → Type 0
+AllInTable [] = Unit
+AllInTable (c ∷ cs) = InTable (c .number) × AllInTable cs
+
+either : (b : Bool) (v : Verdict) (n place : ℕ) → OneToTwenty v → InTable n → OneToTwenty (pick b v (Refuse (refusal n place)))
+either true v n place rest this = rest
+either false v n place rest this = this
+
+first-numbered : (cs : List Check) (v : Verdict) → AllInTable cs → OneToTwenty v → OneToTwenty (firstOf cs v)
+first-numbered [] v these rest = rest
+first-numbered (c ∷ cs) v these rest = either (c .passes) (firstOf cs v) (c .number) (c .place) (first-numbered cs v (these .1) rest) (these .0)
+
+accept-numbered : (entry : ℕ) (k : Option Claim) → OneToTwenty (acceptOf entry k)
+accept-numbered entry none = search arith
+accept-numbered entry (some c) = tt
+
+module _ (f : Fields) (image : List ℕ) where
+  checks-numbered : (ms : List Mark) → AllInTable (checksOfMarks f image ms ++ wholeChecks f)
+  unfolding checksAt
+  checks-numbered [] = search arith
+  checks-numbered (m ∷ ms) = search (arith, checks-numbered ms)
+
+  judged-numbered : OneToTwenty (judgedOf f image)
+  unfolding judgedOf
+  judged-numbered =
+      let entry = f .header .entry in
+      let claim = claimAt (f .marks) entry in
+      first-numbered (checksOf f image) (acceptOf entry claim) (search (arith, checks-numbered (f .marks))) (accept-numbered entry claim)
+
+most : (b : Bool) (n k : ℕ) → leb n 20 ≡ true → leb k 20 ≡ true → leb (Bytes.pick b n k) 20 ≡ true
+most true n k p q = p
+most false n k p q = q
+
+cause-most : (p : Prefix) (c : Command) → leb (causeOf p c) 20 ≡ true
+unfolding causeOf
+cause-most p c = search most
+
+end-numbered : (image : List ℕ) (p : Prefix) (ms : List Mark) (s : List ℕ) → OneToTwenty (verdictBy (endOf p ms s) image)
+end-numbered image p ms [] = judged-numbered _ image
+end-numbered image p ms (b ∷ s) = search arith
+
+-- `left`: whatever is left to do gives such a verdict
+module _ (image : List ℕ) (ms : List Mark) (s : List ℕ) (f : Rest)
+    (left : (q : Prefix) (ks : List Mark) (t : List ℕ) → OneToTwenty (verdictBy (f q ks t) image)) where
+  admit-numbered : (p q : Prefix) (c : Command) (n : ℕ) → leb n 20 ≡ true
+      → OneToTwenty (verdictBy (onward (admittedAs (Bytes.pick (eqb n 0) (Next q) (Refused (refusal n (p .at)))) c) ms s f) image)
+  admit-numbered p q c zero few = left q _ _
+  admit-numbered p q c (suc n) few = rw eqb·suc-zero (omega arith, leb-true (suc n) 20 few)
+
+  turn-numbered : (p : Prefix) (d : Decoded) → OneToTwenty (verdictBy (onward (decodedAs d p) ms s f) image)
+  unfolding admitOf
+  turn-numbered p Unknown = search arith
+  turn-numbered p Cut = search arith
+  turn-numbered p (Found c) = admit-numbered p (afterOf p c) c (causeOf p c) (cause-most p c)
+
+  rest-numbered : (p : Prefix) (ended : Bool) → OneToTwenty (verdictBy (ifEnded ended p ms s f) image)
+  unfolding turnOf
+  rest-numbered p true = end-numbered image p ms s
+  rest-numbered p false = turn-numbered p (Bytes.decodeOf s)
+
+read-numbered : (image : List ℕ) (n : ℕ) (p : Prefix) (ms : List Mark) (s : List ℕ) → OneToTwenty (verdictBy (readFrom n p ms s) image)
+unfolding readFrom
+read-numbered image zero p ms s = search arith
+read-numbered image (suc n) p ms s = rest-numbered image ms s _ (read-numbered image n) p (eqb (p .stage) 5)
+
+pub numbered : (ticket image : List ℕ) → RefusalsNumbered ticket image
+unfolding verdictOf readOf
+numbered ticket image r h = rw h at (read-numbered image (suc (length ticket)) startOf [] ticket)

@@ -1,0 +1,82 @@
+// The verdict on a routine, and its start. `verdict` and `start` are the interface: they take any bytes and any header.
+ghost use mathlib.Core.Path.{_≡_};
+ghost use Rattle.rules.specs.Checks.{verdictOf};
+ghost use Rattle.verdict.specs.Promise.{Promised};
+ghost use Rattle.verdict.specs.Start.{startedOf, loadedOf, StartsAsClaimed};
+ghost use Rattle.verdict.specs.Routine.{begun, begunOf, StartedComesHome};
+use crate::load::fill;
+use crate::load::last_of;
+use crate::load::put_home;
+use checks::judge::judge;
+use commands::command::Refusal;
+use commands::command::refuse;
+use commands::prefix::Header;
+use registers::Data;
+use registers::Registers;
+use rules::Verdict;
+use ticket::answer::Answer;
+use ticket::read;
+
+mod load; // the image and home's bytes into memory
+
+// Accepts if and only if every ticket rule holds; else the first cause in document 01's order, with its place. An accepted routine comes home.
+pub fn verdict(ticket: &[u8], image: &[u8]) -> Verdict
+    ensures { λ r. ⌜ (r ≡ verdictOf (now (ticket .entry)) (now (image .entry))) × Promised (now (ticket .entry)) (now (image .entry)) ⌝ }
+{
+    let reading = read(ticket);
+    let answer = reading.answer;
+    match answer {
+        Answer::Refused(x) => Verdict::Refuse(x),
+        Answer::Read => {
+            let t = reading.ticket;
+            judge(t, image)
+        }
+    }
+}
+
+// The registers at the start, or 21 for the memory's length, or 9 for the image's.
+pub enum Started {
+    At(Registers),
+    Refused(Refusal),
+}
+
+// Document 01's start, from the header of an accepted ticket: the image fills the code window and home goes in as two zero bytes. Of a header that no ticket can have,
+// addresses wrap.
+pub fn start(h: Header, image: &[u8], d: Data, memory: &mut [u8]) -> Started
+    ensures { λ r. ⌜ (r ≡ startedOf h d (now (image .entry)) (now (memory .entry))) × (now (memory .exit) ≡ loadedOf h (now (image .entry)) (now (memory .entry))) × StartsAsClaimed h d (now (image .entry)) (now (memory .entry)) ⌝ }
+{
+    let code = h.code;
+    let stack = h.stack;
+    if memory.len() != 65536 {
+        return Started::Refused(refuse(21, 0));
+    }
+    if image.len() != (code.length as usize) {
+        return Started::Refused(refuse(9, 0));
+    }
+    let top = last_of(stack);
+    fill(code.start, image, memory);
+    put_home(top, memory);
+    Started::At(Registers::start(d, h.entry, top))
+}
+
+// Judges a routine and, where it is accepted, starts it: what is started comes home. Else the number and place of the verdict's refusal.
+pub fn start_routine(ticket: &[u8], image: &[u8], d: Data, memory: &mut [u8]) -> Started
+    ensures { λ r. ⌜ (begun r (now (memory .exit)) ≡ begunOf (now (ticket .entry)) (now (image .entry)) d (now (memory .entry))) × StartedComesHome (now (ticket .entry)) (now (image .entry)) d (now (memory .entry)) ⌝ }
+{
+    if memory.len() != 65536 {
+        return Started::Refused(refuse(21, 0));
+    }
+    let reading = read(ticket);
+    let answer = reading.answer;
+    match answer {
+        Answer::Refused(x) => Started::Refused(x),
+        Answer::Read => {
+            let t = reading.ticket;
+            let h = t.header;
+            match judge(t, image) {
+                Verdict::Refuse(x) => Started::Refused(x),
+                Verdict::Accept(_, _, _) => start(h, image, d, memory),
+            }
+        }
+    }
+}

@@ -1,0 +1,39 @@
+// The memory of the start.
+ghost use mathlib.Core.Path.{_≡_};
+ghost use lib.ListN.{length};
+ghost use Rattle.memory.specs.Memory.{applied};
+ghost use Rattle.verdict.specs.Start.{lastOf, imageStores, homeStores};
+use commands::command::Window;
+use memory::put_byte;
+use registers::word::down;
+use registers::word::up;
+
+// A window's last address.
+pub fn last_of(w: Window) -> u16
+    ensures { λ r. ⌜ r ≡ lastOf w ⌝ }
+{
+    down(up(w.start, w.length), 1)
+}
+
+// The image's bytes, from an address on.
+pub fn fill(from: u16, image: &[u8], memory: &mut [u8])
+    requires { ⌜ length (now memory) ≡ 65536 ⌝ }
+    ensures { λ _. ⌜ (now (memory .exit) ≡ applied (imageStores from (now (image .entry))) (now (memory .entry))) × (length (now (memory .exit)) ≡ 65536) ⌝ }
+{
+    let mut i = 0;
+    let mut at = from;
+    while i < image.len() {
+        put_byte(memory, at, image[i]);
+        at = up(at, 1);
+        i += 1;
+    }
+}
+
+// Home's two zero bytes.
+pub fn put_home(top: u16, memory: &mut [u8])
+    requires { ⌜ length (now memory) ≡ 65536 ⌝ }
+    ensures { λ _. ⌜ (now (memory .exit) ≡ applied (homeStores top) (now (memory .entry))) × (length (now (memory .exit)) ≡ 65536) ⌝ }
+{
+    put_byte(memory, top, 0);
+    put_byte(memory, down(top, 1), 0);
+}
