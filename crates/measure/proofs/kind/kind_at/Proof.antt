@@ -1,0 +1,64 @@
+-- `kind_at` meets its contract: the bytes that it reads are those that the step fetches.
+-- Assumes nothing.
+use borrow.Author.Needs.{needs}
+use native.Mathlib.Omega.{arith}
+use mathlib.Core.Path.{_≡_, sym, _∙_}
+use Rattle.opcodes.specs.Decode.{foundOf}
+use Rattle.registers.proofs.Wrap.{plus-zero}
+use Rattle.measure.proofs.Found.{bytes, nowhere-kind, in-tables, entry, size-small, there-kind}
+use Rattle.measure.proofs.kind.kind_at.Statement.{statement}
+use Rattle.measure.proofs.kind.kind_at.Tie as tie
+
+-- back to the call
+abbrev called : tie.After-found-of → tie.Start
+called c = c .before .before .before .before .before .before .before
+
+found : (c : tie.After-found-of) → let z = called c .args in foundOf (bytes (z .mem .now) (z .pc) 0) (bytes (z .mem .now) (z .pc) 1) ≡ c .found-of .result
+found c =
+    let u = c .before .before .before in
+    simp
+    (plus-zero (called c .args .pc) (search needs), ← u .up .ensures, ← u .before .byte-at .ensures, ← c .before .before .byte-at2 .ensures, ← c .found-of .ensures)
+
+add-up : tie.Need-add-up
+add-up c =
+    let p = c .before .before .before in
+    let d = p .before .before in
+    omega (arith, size-small _ _ (found d ∙ p .place .given .1))
+
+add-up-2 : tie.Need-add-up-2
+add-up-2 c =
+    let p = c .before .before .before .before .before in
+    let d = p .before .before in
+    omega (arith, size-small _ _ (found d ∙ p .place .given .1))
+
+kind-found-requires : tie.Need-kind-found-requires
+kind-found-requires c κs =
+    let p = c .before .before .before .before .before .before .before in
+    let d = p .before .before in
+    let h = found d ∙ p .place .given .1 in (in-tables _ _ h, entry _ _ h)
+
+returns : tie.Need-returns
+returns c = sym (nowhere-kind _ _ (found (c .before .before) ∙ c .enum-told .given .1))
+
+returns-2 : tie.Need-returns-2
+returns-2 c =
+    let w = c .before in
+    let v = w .before .before in
+    let u = v .before .before in
+    let p = u .before .before .before in
+    let h = found (p .before .before) ∙ p .place .given .1 in
+    simp
+    (there-kind _ _ h, ← u .before .up2 .ensures, ← v .before .up3 .ensures, ← w .before .up4 .ensures, ← u .byte-at3 .ensures, ← v .byte-at4 .ensures, ← w .byte-at5 .ensures)
+    (c .kind-found .ensures)
+
+pub kind-at-spec : {M : Type 1} → statement M
+kind-at-spec =
+    tie.close
+    (tie.spec (search needs) (search needs) (search needs) (search needs) (λ c κs. search needs) (search needs) (search needs) (search needs) (search needs)
+    add-up
+    (search needs) (search needs)
+    add-up-2
+    (search needs) (search needs)
+    kind-found-requires
+    returns
+    returns-2)

@@ -1,0 +1,31 @@
+-- `kind_found` meets its contract: the form is that of what is decoded, and an entry of the table fits in a word.
+-- Assumes nothing.
+use borrow.Author.Needs.{needs}
+use native.Mathlib.Omega.{arith}
+use Rattle.opcodes.proofs.Rule.{entry-word}
+use Rattle.measure.proofs.kind.kind_found.Statement.{statement}
+use Rattle.measure.proofs.kind.kind_found.Tie as tie
+
+cast-up : tie.Need-cast-up
+cast-up c = omega (arith, entry-word (c .before .before .args .place))
+
+returns : tie.Need-returns
+returns c =
+    let d = c .before .before .before .before .before in
+    let u = d .before .before .before in
+    simp
+    (c .kind-by .ensures, c .before .form-of .ensures, ← d .decode .ensures, c .before .before .before .a .given .1, u .up .ensures, u .before .before .before .pre .1)
+
+returns-2 : tie.Need-returns-2
+returns-2 c = simp (← c .before .before .decode .ensures, c .enum-told .given .1)
+
+pub kind-found-spec : {M : Type 1} → statement M
+kind-found-spec =
+    tie.close
+    (tie.spec (search needs) (search needs)
+    cast-up
+    (search needs)
+    (λ c κs. search needs)
+    (search needs) (search needs) (search needs) (search needs)
+    returns
+    returns-2)

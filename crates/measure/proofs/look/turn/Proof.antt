@@ -1,0 +1,31 @@
+-- `turn` meets its contract: the step's own answer and memory, and what the kind makes of them.
+-- Assumes nothing.
+use borrow.Author.Needs.{needs}
+use mathlib.Core.Path.{_≡_, refl, sym, ap, _∙_}
+use native.Mathlib.Omega.{arith}
+use Rattle.stepper.specs.Answer.{answerOf}
+use Rattle.measure.specs.Look.{turnOf}
+use Rattle.measure.proofs.look.turn.Statement.{statement}
+use Rattle.measure.proofs.look.turn.Tie as tie
+
+returns : tie.Need-returns
+unfolding turnOf
+returns c =
+    let s = c .before .before .before .before .before .before in
+    let e = ap answerOf (c .before .before .q .given .1) in
+    (simp (← s .step .ensures .0, e, ← s .step .ensures .1, c .after .ensures .0, ← s .before .before .kind-at .ensures), search needs, c .after .ensures .1, c .after .ensures .2)
+
+returns-2 : tie.Need-returns-2
+unfolding turnOf
+returns-2 c =
+    let s = c .before .before .before .before .before in
+    let e = ap answerOf (c .before .enum-told .given .1) in
+    (simp (← s .step .ensures .0, e, ← s .step .ensures .1, c .over .ensures, ← s .before .before .kind-at .ensures), search needs, rw (c .over .ensures) (omega arith), rw (c .over .ensures) (omega arith))
+
+pub turn-spec : {M : Type 1} → statement M
+turn-spec =
+    tie.close
+    (tie.spec (search needs) (search needs) (search needs) (search needs) (search needs) (search needs) (search needs)
+    returns
+    (search needs)
+    returns-2)

@@ -1,0 +1,77 @@
+-- What a mark claims, measured along a run: the cycles and the stack bytes that a routine takes from an instruction to its own return (document 01, "The ticket": cost, depth, need).
+-- Assumes nothing.
+use Prim.Native.Nat.{ℕ, zero, suc, _+_, _-_}
+use mathlib.Core.Bool.{Bool, true, false}
+use mathlib.Core.List.{List}
+use lib.Dec.{eqb, ltb}
+use Rattle.registers.specs.Word.{less}
+use Rattle.registers.specs.declared.Registers.{Registers}
+use Rattle.opcodes.specs.Decode.{pick}
+use Rattle.stepper.specs.Answer.{Answer, done, refused}
+use Rattle.stepper.specs.Step.{stepOf}
+use Rattle.commands.specs.declared.command.Claim.{Claim}
+use Rattle.rules.specs.Trace.{Kind, calls, returns, plain, kindOf}
+use Rattle.measure.specs.declared.kind.Kind.{Kind as Said}
+use Rattle.measure.specs.declared.kind.Kind.the-variants as Said
+use Rattle.measure.specs.declared.look.Look.{Look}
+
+abbrev pub kindSaid : Said → Kind
+kindSaid Said.Calls = calls
+kindSaid Said.Returns = returns
+kindSaid Said.Plain = plain
+
+abbrev pub beginOf : Registers → ℕ → Look
+beginOf r b = record { regs = r; lowest = r .sp; pending = 0; left = b; over = false }
+
+abbrev pub overOf : Look → Look
+overOf l = record { regs = l .regs; lowest = l .lowest; pending = l .pending; left = l .left; over = true }
+
+-- the lower of two addresses
+abbrev pub lowerOf : ℕ → ℕ → ℕ
+lowerOf a b = pick (ltb a b) a b
+
+-- the calls that have not returned after an instruction of a kind
+abbrev pub pendingAfter : Kind → ℕ → ℕ
+pendingAfter calls n = n + 1
+pendingAfter returns n = n - 1
+pendingAfter plain n = n
+
+-- a return while no call is pending is the routine's own
+abbrev pub ends : Kind → ℕ → Bool
+ends calls n = false
+ends returns n = eqb n 0
+ends plain n = false
+
+-- an instruction of this kind led to the registers q in k cycles
+abbrev pub onOf : Kind → Look → Registers → ℕ → Look
+onOf d l q k = record { regs = q; lowest = lowerOf (l .lowest) (q .sp); pending = pendingAfter d (l .pending); left = l .left - k; over = ends d (l .pending) }
+
+-- one that the budget does not cover, or that is refused, ends the look
+abbrev pub afterOf : Kind → Look → Answer → Look
+afterOf d l (done q k) = pick (ltb (l .left) (k .0)) (overOf l) (onOf d l q (k .0))
+afterOf d l (refused n p) = overOf l
+
+pub record Turned : Type 0 where
+  pub look : Look
+  pub memory : List ℕ
+
+abbrev pub turned : Look → List ℕ → Turned
+turned l m = record { look = l; memory = m }
+
+unfoldable pub turnOf : Look → List ℕ → Turned
+turnOf l m = let s = stepOf (l .regs) m in turned (afterOf (kindOf m (l .regs .pc)) l (s .answer)) (s .memory)
+
+-- at most n instructions
+unfoldable pub lookFrom : ℕ → Look → List ℕ → Look
+lookFrom zero l m = l
+lookFrom (suc n) l m = pick (l .over) l (let t = turnOf l m in lookFrom n (t .look) (t .memory))
+
+-- every instruction takes a cycle or more, so as many turns as there are cycles in the budget are enough
+abbrev pub lookOf : Registers → List ℕ → ℕ → Look
+lookOf r m b = lookFrom b (beginOf r b) m
+
+-- from the registers r and the memory m: the cycles until the return; the bytes pushed before, which the return finds below its address; the bytes taken below SP
+abbrev pub measuredOf : Registers → List ℕ → ℕ → Claim
+measuredOf r m b =
+    let l = lookOf r m b in
+    record { cost = record { 0 = b - l .left }; depth = record { 0 = less (less (l .regs .sp) 2) (r .sp) }; need = record { 0 = less (r .sp) (l .lowest) } }

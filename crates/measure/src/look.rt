@@ -1,0 +1,136 @@
+// From an instruction to its routine's own return.
+ghost use mathlib.Core.Path.{_≡_};
+ghost use Prim.Native.Nat.{_+_, _≤_, _<_};
+ghost use lib.ListN.{length};
+ghost use Rattle.measure.specs.Look.{kindSaid, beginOf, overOf, lowerOf, pendingAfter, ends, afterOf, turned, turnOf, lookOf, measuredOf};
+ghost use Rattle.stepper.specs.Answer.{done};
+use crate::kind::Kind;
+use crate::kind::kind_at;
+use commands::command::Claim;
+use registers::Cycles;
+use registers::Registers;
+use registers::StackBytes;
+use registers::word::down;
+use stepper::answer::Stepped;
+use stepper::step;
+
+// The registers reached, the lowest SP so far, how many calls have not returned, what is left of the budget, and whether the look has ended.
+pub struct Look {
+    pub regs: Registers,
+    pub lowest: u16,
+    pub pending: u32,
+    pub left: u32,
+    pub over: bool,
+}
+
+fn begin(r: Registers, budget: u32) -> Look
+    ensures { λ l. ⌜ l ≡ beginOf r budget ⌝ }
+{
+    Look {
+        regs: r,
+        lowest: r.sp,
+        pending: 0,
+        left: budget,
+        over: false,
+    }
+}
+
+fn over(l: Look) -> Look
+    ensures { λ r. ⌜ r ≡ overOf l ⌝ }
+{
+    let regs = l.regs;
+    Look {
+        regs,
+        lowest: l.lowest,
+        pending: l.pending,
+        left: l.left,
+        over: true,
+    }
+}
+
+fn lower(a: u16, b: u16) -> u16
+    ensures { λ r. ⌜ r ≡ lowerOf a b ⌝ }
+{
+    if a < b { a } else { b }
+}
+
+fn pending_after(d: Kind, n: u32) -> u32
+    requires { ⌜ n + 1 < 4294967296 ⌝ }
+    ensures { λ r. ⌜ (r ≡ pendingAfter (kindSaid d) n) × (r ≤ n + 1) ⌝ }
+{
+    match d {
+        Kind::Calls => n + 1,
+        Kind::Returns => { if n == 0 { 0 } else { n - 1 } }
+        Kind::Plain => n,
+    }
+}
+
+// A return while no call is pending is the routine's own.
+fn ends(d: Kind, n: u32) -> bool
+    ensures { λ r. ⌜ r ≡ ends (kindSaid d) n ⌝ }
+{
+    match d {
+        Kind::Calls => false,
+        Kind::Returns => n == 0,
+        Kind::Plain => false,
+    }
+}
+
+// An instruction of this kind led to the registers q in k cycles.
+fn after(d: Kind, l: Look, q: Registers, k: Cycles) -> Look
+    requires { ⌜ l .pending + 1 < 4294967296 ⌝ }
+    ensures { λ r. ⌜ (r ≡ afterOf (kindSaid d) l (done q k)) × (r .pending ≤ l .pending + 1) × (r .left ≤ l .left) ⌝ }
+{
+    if l.left < k.0 {
+        return over(l);
+    }
+    Look {
+        regs: q,
+        lowest: lower(l.lowest, q.sp),
+        pending: pending_after(d, l.pending),
+        left: l.left - k.0,
+        over: ends(d, l.pending),
+    }
+}
+
+// The next instruction.
+fn turn(l: Look, mem: &mut [u8]) -> Look
+    requires { ⌜ (length (now mem) ≡ 65536) × (l .pending + 1 < 4294967296) ⌝ }
+    ensures { λ r. ⌜ (turned r (now (mem .exit)) ≡ turnOf l (now (mem .entry))) × (length (now (mem .exit)) ≡ 65536) × (r .pending ≤ l .pending + 1) × (r .left ≤ l .left) ⌝ }
+{
+    let regs = l.regs;
+    let d = kind_at(mem, regs.pc);
+    match step(regs, mem) {
+        Stepped::Done(q, k) => after(d, l, q, k),
+        Stepped::Refused(_) => over(l),
+    }
+}
+
+fn look_ahead(r: Registers, mem: [u8; 65536], budget: u32) -> Look
+    ensures { λ l. ⌜ (l ≡ lookOf r mem budget) × (l .left ≤ budget) ⌝ }
+{
+    let mut m = mem;
+    let mut l = begin(r, budget);
+    let mut i: u32 = 0;
+    while i < budget {
+        if l.over {
+            return l;
+        }
+        l = turn(l, &mut m);
+        i += 1;
+    }
+    l
+}
+
+// What a mark at PC claims, as this run has it, within a budget of cycles: cost, depth and need.
+pub fn measure(r: Registers, mem: [u8; 65536], budget: u32) -> Claim
+    ensures { λ c. ⌜ c ≡ measuredOf r mem budget ⌝ }
+{
+    let l = look_ahead(r, mem, budget);
+    let end = l.regs.sp;
+    Claim {
+        cost: Cycles(budget - l.left),
+        depth: StackBytes(down(down(end, 2), r.sp)),
+        need: StackBytes(down(r.sp, l.lowest)),
+    }
+}
