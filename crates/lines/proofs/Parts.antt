@@ -10,9 +10,9 @@ use Rattle.rules.specs.declared.Verdict.{Verdict}
 use Rattle.rules.specs.declared.Verdict.the-variants.{Accept, Refuse}
 use Rattle.ticket.specs.Write.{spliced}
 use Rattle.ticket.proofs.Splice.{Placed}
-use Rattle.lines.specs.Number.{hexOf, decimalOf}
+use Rattle.text.specs.Number.{hexOf, decimalOf}
 use Rattle.lines.specs.Line.{accept, refuse, space, end, acceptLine, refuseLine, lineOf}
-use Rattle.lines.proofs.Digits.{decimal-most}
+use Rattle.text.proofs.Digits.{decimal-most}
 
 pub length-hex : (n : ℕ) → length (hexOf n) ≡ 4
 unfolding hexOf

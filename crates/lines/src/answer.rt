@@ -4,13 +4,13 @@ ghost use Prim.Native.Nat.{_≤_};
 ghost use lib.ListN.{length};
 ghost use Rattle.ticket.specs.Write.{spliced};
 ghost use Rattle.lines.specs.Line.{acceptLine, refuseLine, lineOf};
-use crate::number::put_decimal;
-use crate::number::put_hex;
-use crate::number::put_text;
 use commands::command::Refusal;
 use registers::Cycles;
 use registers::StackBytes;
 use rules::Verdict;
+use text::number::put_decimal;
+use text::number::put_hex;
+use text::number::put_text;
 
 fn put_accept(out: &mut [u8], entry: u16, cost: Cycles, stack: StackBytes) -> usize
     requires { ⌜ length (now out) ≡ 64 ⌝ }

@@ -1,3 +1,2 @@
-// An inner crate: numbers and the verdict as text, on a lent buffer.
-pub mod number; // in hexadecimal and in decimal
+// An inner crate: the verdict as text, on a lent buffer.
 pub mod answer; // the checking program's line

@@ -3,7 +3,7 @@
 use borrow.Author.Needs.{needs}
 use native.Mathlib.Omega.{arith}
 use Rattle.ticket.proofs.Splice.{placed-none, placed-next}
-use Rattle.lines.specs.Number.{hexOf, decimalOf}
+use Rattle.text.specs.Number.{hexOf, decimalOf}
 use Rattle.lines.specs.Line.{accept, space, end}
 use Rattle.lines.proofs.Parts.{length-hex, accept-parts, placed-first}
 use Rattle.lines.proofs.answer.put_accept.Statement.{statement}

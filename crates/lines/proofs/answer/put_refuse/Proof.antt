@@ -3,7 +3,7 @@
 use borrow.Author.Needs.{needs}
 use native.Mathlib.Omega.{arith}
 use Rattle.ticket.proofs.Splice.{placed-none, placed-next}
-use Rattle.lines.specs.Number.{decimalOf}
+use Rattle.text.specs.Number.{decimalOf}
 use Rattle.lines.specs.Line.{refuse, space, end}
 use Rattle.lines.proofs.Parts.{refuse-parts, placed-first}
 use Rattle.lines.proofs.answer.put_refuse.Statement.{statement}

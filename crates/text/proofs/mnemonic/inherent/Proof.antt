@@ -1,0 +1,46 @@
+-- `inherent` meets its contract: instruction by instruction.
+-- Assumes nothing.
+use borrow.Author.Needs.{needs}
+use mathlib.Core.Path.{sym, ap}
+use Rattle.text.specs.Mnemonic.{inherentName}
+use Rattle.text.proofs.mnemonic.inherent.Statement.{statement}
+use Rattle.text.proofs.mnemonic.inherent.Tie as tie
+
+pub inherent-spec : {M : Type 1} → statement M
+inherent-spec =
+    tie.close
+    (tie.spec
+    (search needs) (search needs) (search needs) (search needs) (search needs) (search needs) (search needs) (search needs)
+    (search needs) (search needs) (search needs) (search needs) (search needs) (search needs) (search needs) (search needs)
+    (search needs) (search needs) (search needs) (search needs) (search needs) (search needs) (search needs) (search needs)
+    (search needs) (search needs) (search needs) (search needs) (search needs) (search needs)
+    (λ c. sym (ap inherentName (c .before .before .enum-told .given .1)))
+    (λ c. sym (ap inherentName (c .before .before .enum-told2 .given .1)))
+    (λ c. sym (ap inherentName (c .before .before .enum-told3 .given .1)))
+    (λ c. sym (ap inherentName (c .before .before .enum-told4 .given .1)))
+    (λ c. sym (ap inherentName (c .before .before .enum-told5 .given .1)))
+    (λ c. sym (ap inherentName (c .before .before .enum-told6 .given .1)))
+    (λ c. sym (ap inherentName (c .before .before .enum-told7 .given .1)))
+    (λ c. sym (ap inherentName (c .before .before .enum-told8 .given .1)))
+    (λ c. sym (ap inherentName (c .before .before .enum-told9 .given .1)))
+    (λ c. sym (ap inherentName (c .before .before .enum-told10 .given .1)))
+    (λ c. sym (ap inherentName (c .before .before .enum-told11 .given .1)))
+    (λ c. sym (ap inherentName (c .before .before .enum-told12 .given .1)))
+    (λ c. sym (ap inherentName (c .before .before .enum-told13 .given .1)))
+    (λ c. sym (ap inherentName (c .before .before .enum-told14 .given .1)))
+    (λ c. sym (ap inherentName (c .before .before .enum-told15 .given .1)))
+    (λ c. sym (ap inherentName (c .before .before .enum-told16 .given .1)))
+    (λ c. sym (ap inherentName (c .before .before .enum-told17 .given .1)))
+    (λ c. sym (ap inherentName (c .before .before .enum-told18 .given .1)))
+    (λ c. sym (ap inherentName (c .before .before .enum-told19 .given .1)))
+    (λ c. sym (ap inherentName (c .before .before .enum-told20 .given .1)))
+    (λ c. sym (ap inherentName (c .before .before .enum-told21 .given .1)))
+    (λ c. sym (ap inherentName (c .before .before .enum-told22 .given .1)))
+    (λ c. sym (ap inherentName (c .before .before .enum-told23 .given .1)))
+    (λ c. sym (ap inherentName (c .before .before .enum-told24 .given .1)))
+    (λ c. sym (ap inherentName (c .before .before .enum-told25 .given .1)))
+    (λ c. sym (ap inherentName (c .before .before .enum-told26 .given .1)))
+    (λ c. sym (ap inherentName (c .before .before .enum-told27 .given .1)))
+    (λ c. sym (ap inherentName (c .before .before .enum-told28 .given .1)))
+    (λ c. sym (ap inherentName (c .before .before .enum-told29 .given .1)))
+    (λ c. sym (ap inherentName (c .before .before .enum-told30 .given .1))))

@@ -1,0 +1,5 @@
+pub mod Text
+pub mod Number
+pub mod Mnemonic
+pub mod Operand
+pub mod Listing

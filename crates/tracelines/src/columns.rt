@@ -1,0 +1,112 @@
+// An instruction and the registers in fixed columns.
+ghost use mathlib.Core.Path.{_≡_};
+ghost use mathlib.Core.List.{_++_};
+ghost use Prim.Native.Nat.{_+_, _≤_};
+ghost use Rattle.tracelines.specs.Line.{written};
+ghost use Rattle.tracelines.specs.Columns.{listingText, flagOf, flagsText, registersText};
+use crate::line::Line;
+use crate::line::with_text;
+use registers::Registers;
+use text::listing::Listing;
+use text::number::hex2;
+use text::number::hex4;
+
+// The address, the bytes, the mnemonic and the operand.
+pub fn with_listing(l: Line, pc: u16, t: Listing) -> Line
+    requires { ⌜ l .len + 43 ≤ 256 ⌝ }
+    ensures { λ r. ⌜ (written r ≡ written l ++ listingText pc t) × (r .len ≡ l .len + 43) ⌝ }
+{
+    let bytes = t.bytes;
+    let mnemonic = t.mnemonic;
+    let operand = t.operand;
+    let address = hex4(pc);
+    let a = with_text(l, &address);
+    let b = with_text(a, b" ");
+    let c = with_text(b, &bytes);
+    let d = with_text(c, b" ");
+    let e = with_text(d, &mnemonic);
+    let f = with_text(e, b" ");
+    with_text(f, &operand)
+}
+
+// A flag's letter where its bit is set, else a dash.
+fn flag(on: bool, letter: u8) -> u8
+    ensures { λ r. ⌜ r ≡ flagOf on letter ⌝ }
+{
+    if on { letter } else { b'-' }
+}
+
+// S X H I N Z V C.
+fn flags(n: u8) -> [u8; 8]
+    ensures { λ r. ⌜ r ≡ flagsText n ⌝ }
+{
+    [
+        flag(n / 128 % 2 == 1, b'S'),
+        flag(n / 64 % 2 == 1, b'X'),
+        flag(n / 32 % 2 == 1, b'H'),
+        flag(n / 16 % 2 == 1, b'I'),
+        flag(n / 8 % 2 == 1, b'N'),
+        flag(n / 4 % 2 == 1, b'Z'),
+        flag(n / 2 % 2 == 1, b'V'),
+        flag(n % 2 == 1, b'C'),
+    ]
+}
+
+// A, B, X, Y, SP and the flags, as an instruction leaves them.
+pub fn with_registers(l: Line, r: Registers) -> Line
+    requires { ⌜ l .len + 41 ≤ 256 ⌝ }
+    ensures { λ q. ⌜ (written q ≡ written l ++ registersText r) × (q .len ≡ l .len + 41) ⌝ }
+{
+    let a = hex2(r.a);
+    let b = hex2(r.b);
+    let x = hex4(r.x);
+    let y = hex4(r.y);
+    let s = hex4(r.sp);
+    let f = flags(r.flags);
+    with_text(
+        l,
+        &[
+            b' ',
+            b'A',
+            b'=',
+            a[0],
+            a[1],
+            b' ',
+            b'B',
+            b'=',
+            b[0],
+            b[1],
+            b' ',
+            b'X',
+            b'=',
+            x[0],
+            x[1],
+            x[2],
+            x[3],
+            b' ',
+            b'Y',
+            b'=',
+            y[0],
+            y[1],
+            y[2],
+            y[3],
+            b' ',
+            b'S',
+            b'P',
+            b'=',
+            s[0],
+            s[1],
+            s[2],
+            s[3],
+            b' ',
+            f[0],
+            f[1],
+            f[2],
+            f[3],
+            f[4],
+            f[5],
+            f[6],
+            f[7],
+        ],
+    )
+}

@@ -1,0 +1,137 @@
+/*
+ * A small press monitor: it judges a routine once, when it is loaded, and runs it once a tick.
+ *
+ *     monitor IMAGE TICKET BUDGET...
+ *
+ * There is one tick for each budget, which is in cycles. Where a comment says so, a real monitor waits for its clock, reads a sensor or drives an output.
+ * The routine is expected to take a reading in A and to leave its output at $0040, as examples/p does.
+ * Exit status: 0 each tick came home; 1 the routine was refused, or a tick did not come home; 2 bad usage, or a file cannot be read.
+ */
+#include "jugrond.h"
+
+#include <errno.h>
+#include <inttypes.h>
+#include <stdbool.h>
+#include <stdio.h>
+#include <stdlib.h>
+
+#define OUTPUT 0x0040
+
+struct file {
+    uint8_t bytes[65536]; /* the checking program takes as many */
+    size_t length;
+};
+
+static struct file image, ticket;
+static uint8_t memory[JUGROND_MEMORY_BYTES]; /* kept from tick to tick: the routine's data window with it */
+
+static bool load(struct file *f, const char *name)
+{
+    FILE *in = fopen(name, "rb");
+    bool whole;
+
+    if (in == NULL)
+        return false;
+    f->length = fread(f->bytes, 1, sizeof f->bytes, in);
+    whole = fgetc(in) == EOF && !ferror(in);
+    fclose(in);
+    return whole;
+}
+
+static bool budget_of(const char *word, uint32_t *budget)
+{
+    char *end;
+    unsigned long long n;
+
+    errno = 0;
+    n = strtoull(word, &end, 10);
+    *budget = (uint32_t)n;
+    return *word >= '0' && *word <= '9' && *end == '\0' && errno == 0 && n <= UINT32_MAX;
+}
+
+/* Judges the routine. Only an accepted one may be loaded. */
+static bool judge(void)
+{
+    uint32_t cost, place;
+    uint16_t entry, stack;
+    uint32_t outcome = jugrond_verdict(ticket.bytes, ticket.length, image.bytes, image.length, &entry, &cost, &stack, &place);
+
+    if (outcome != JUGROND_ACCEPTED) {
+        printf("refused: cause %" PRIu32 ", place %" PRIu32 "\n", outcome, place);
+        return false;
+    }
+    printf("accepted: entry $%04" PRIX16 ", at most %" PRIu32 " cycles and %" PRIu16 " stack bytes\n", entry, cost, stack);
+    return true;
+}
+
+/* How a tick ended: home, spent or a refusal, as jugrond.h numbers them. */
+struct end {
+    uint32_t outcome, cycles, place;
+};
+
+/* Starts the routine afresh and runs it with the tick's budget. */
+static struct end tick(uint8_t reading, uint32_t budget)
+{
+    uint8_t registers[JUGROND_REGISTER_BYTES];
+    struct end e = {0, 0, 0};
+    uint16_t pc;
+
+    e.outcome = jugrond_reset(registers, sizeof registers);
+    if (e.outcome != JUGROND_DONE)
+        return e;
+    registers[JUGROND_A] = reading;
+    e.outcome = jugrond_start(ticket.bytes, ticket.length, image.bytes, image.length, registers, sizeof registers, memory,
+                              sizeof memory, &e.place);
+    if (e.outcome != JUGROND_ACCEPTED)
+        return e;
+    e.outcome = jugrond_run(registers, sizeof registers, memory, sizeof memory, budget, &e.cycles, &pc);
+    e.place = pc;
+    return e;
+}
+
+int main(int argc, char **argv)
+{
+    int status = EXIT_SUCCESS;
+    uint8_t output = 0;
+
+    if (argc < 4) {
+        fputs("usage: monitor IMAGE TICKET BUDGET...\n", stderr);
+        return 2;
+    }
+    if (!load(&image, argv[1]) || !load(&ticket, argv[2])) {
+        fputs("monitor: a file cannot be read, or is longer than 65,536 bytes\n", stderr);
+        return 2;
+    }
+    if (!judge())
+        return EXIT_FAILURE;
+
+    for (int i = 3; i < argc; i++) { /* here the clock is waited for */
+        uint8_t reading = (uint8_t)(10 * (i - 2)); /* here a sensor is read */
+        uint32_t budget;
+        struct end e;
+
+        if (!budget_of(argv[i], &budget)) {
+            fprintf(stderr, "monitor: no budget: %s\n", argv[i]);
+            return 2;
+        }
+        e = tick(reading, budget);
+        switch (e.outcome) {
+        case JUGROND_HOME: /* only now is the output whole */
+            output = memory[OUTPUT];
+            printf("tick %d: home after %" PRIu32 " cycles, output %d\n", i - 2, e.cycles, output);
+            break;
+        case JUGROND_SPENT: /* the budget was below the certified cycles: what stands in memory is half done, and the last output stays */
+            printf("tick %d: spent after %" PRIu32 " cycles, output stays %d\n", i - 2, e.cycles, output);
+            status = EXIT_FAILURE;
+            break;
+        case JUGROND_BAD_LENGTH:     /* a fault of this program */
+        case JUGROND_NO_INSTRUCTION: /* these two cannot be, after a start: the memory was altered since */
+        case JUGROND_WAITS:
+        default: /* 1 to 20, by the start: image or ticket was altered since it was judged */
+            printf("tick %d: refused: cause %" PRIu32 ", place %" PRIu32 "; stopped\n", i - 2, e.outcome, e.place);
+            return EXIT_FAILURE; /* here the press is brought to a safe state */
+        }
+        /* here the output is driven */
+    }
+    return status;
+}

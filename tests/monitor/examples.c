@@ -1,0 +1,115 @@
+/*
+ * Runs the example routines ramp and shared on many inputs, each with the certified cycles as its budget, and compares what they leave with what their sources say that they
+ * compute. The dearest way must take the cycles stored here. Prints the number of runs, or the first difference; the exit status tells.
+ */
+#include "jugrond.h"
+
+#include <inttypes.h>
+#include <stdio.h>
+#include <stdlib.h>
+#include <string.h>
+
+static uint8_t memory[JUGROND_MEMORY_BYTES], at_start[JUGROND_REGISTER_BYTES];
+static uint32_t certified, dearest;
+static int runs;
+
+static size_t read_file(const char *name, uint8_t *bytes, size_t room)
+{
+    FILE *in = fopen(name, "rb");
+    size_t length;
+
+    if (in == NULL) {
+        perror(name);
+        exit(2);
+    }
+    length = fread(bytes, 1, room, in);
+    fclose(in);
+    return length;
+}
+
+static void start(const char *image_name, const char *ticket_name)
+{
+    static uint8_t image[4096], ticket[65536];
+    size_t image_length = read_file(image_name, image, sizeof image), ticket_length = read_file(ticket_name, ticket, sizeof ticket);
+    uint32_t place;
+    uint16_t entry, stack;
+
+    dearest = 0;
+    if (jugrond_verdict(ticket, ticket_length, image, image_length, &entry, &certified, &stack, &place) != JUGROND_ACCEPTED ||
+        jugrond_reset(at_start, sizeof at_start) != JUGROND_DONE ||
+        jugrond_start(ticket, ticket_length, image, image_length, at_start, sizeof at_start, memory, sizeof memory, &place) != JUGROND_ACCEPTED) {
+        printf("DIFFERENCE %s is not started\n", image_name);
+        exit(1);
+    }
+}
+
+/* Runs from the start. The image and home's bytes need not be stored again: no routine that was accepted writes there. */
+static void check(const char *name, uint16_t output, int wanted)
+{
+    uint8_t registers[JUGROND_REGISTER_BYTES];
+    uint32_t outcome, cycles;
+    uint16_t place;
+
+    memcpy(registers, at_start, sizeof registers);
+    outcome = jugrond_run(registers, sizeof registers, memory, sizeof memory, certified, &cycles, &place);
+    if (cycles > dearest)
+        dearest = cycles;
+    if (outcome != JUGROND_HOME || memory[output] != wanted) {
+        printf("DIFFERENCE %s, run %d: outcome %" PRIu32 ", output %d instead of %d\n", name, runs, outcome, memory[output], wanted);
+        exit(1);
+    }
+    runs++;
+}
+
+static void check_dearest(const char *name, uint32_t wanted)
+{
+    if (dearest != wanted) {
+        printf("DIFFERENCE %s: dearest way %" PRIu32 " cycles instead of %" PRIu32 "\n", name, dearest, wanted);
+        exit(1);
+    }
+}
+
+static int least(int a, int b)
+{
+    return a < b ? a : b;
+}
+
+/* The drive goes a step of 4 towards the set point, and stays from 0 to 200. */
+static int ramped(int measured, int setpoint, int drive)
+{
+    if (measured < setpoint)
+        return least(drive + 4, 200);
+    if (measured > setpoint)
+        return drive < 4 ? 0 : drive - 4;
+    return drive;
+}
+
+static int scaled(int reading)
+{
+    return least(reading + reading * 38 / 256, 255);
+}
+
+int main(void)
+{
+    start("examples/ramp/ramp.bin", "examples/ramp/ramp.tkt");
+    for (int measured = 0; measured < 256; measured += 15)
+        for (int setpoint = 0; setpoint < 256; setpoint += 5)
+            for (int drive = 0; drive <= 200; drive++) {
+                memory[0x40] = (uint8_t)measured;
+                memory[0x41] = (uint8_t)setpoint;
+                memory[0x42] = (uint8_t)drive;
+                check("ramp", 0x42, ramped(measured, setpoint, drive));
+            }
+    check_dearest("ramp", 35); /* 2 below the certified cycles: after CLRA the drive is never clamped, but the rules ignore flags */
+
+    start("examples/shared/shared.bin", "examples/shared/shared.tkt");
+    for (int left = 0; left < 256; left++)
+        for (int right = 0; right < 256; right++) {
+            memory[0x50] = (uint8_t)left;
+            memory[0x51] = (uint8_t)right;
+            check("shared", 0x52, (scaled(left) + scaled(right)) / 2);
+        }
+    check_dearest("shared", 99);
+    printf("ok, %d runs\n", runs);
+    return EXIT_SUCCESS;
+}
