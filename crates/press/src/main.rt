@@ -1,19 +1,11 @@
 // The checking program: reads press.bin and press.tkt from the folder it is run in and prints the verdict as one line (document 01, "One routine, read
 // aloud").
-use file::load;
+use files::load;
+use files::unfit;
 use io::write_all;
 use libc::STDOUT_FILENO;
 use lines::answer::put_verdict;
 use verdict::verdict;
-
-mod file; // a file of at most 65,536 bytes
-
-// A file that is missing, cannot be read or is longer.
-fn unfit(name: &[u8]) {
-    write_all(STDOUT_FILENO, b"FILE ");
-    write_all(STDOUT_FILENO, name);
-    write_all(STDOUT_FILENO, b"\n");
-}
 
 fn judge(ticket: &[u8], image: &[u8]) {
     let mut line = [0u8; 64];

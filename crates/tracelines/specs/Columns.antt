@@ -29,3 +29,7 @@ unfoldable pub registersText : Registers → List ℕ
 registersText r =
     ascii " A=" ++ (byteHex (r .a) ++ (ascii " B=" ++ (byteHex (r .b) ++ (ascii " X=" ++ (hexOf (r .x) ++ (ascii " Y=" ++ (hexOf (r .y)
     ++ (ascii " SP=" ++ (hexOf (r .sp) ++ (ascii " " ++ flagsText (r .flags)))))))))))
+
+-- the line of an instruction alone
+unfoldable pub placeLine : ℕ → Listing → List ℕ
+placeLine pc l = listingText pc l ++ ascii "\n"

@@ -1,5 +1,7 @@
-// A whole file in a lent buffer.
+// An inner crate: whole files in lent buffers, for the programs at the desk.
 ghost use Rattle.io.specs.Counts.{Counts};
+use io::write_all;
+use libc::STDOUT_FILENO;
 
 // Whether the whole file is in the buffer, and how many bytes were read.
 pub struct File {
@@ -26,4 +28,11 @@ pub fn load(name: &[u8], buf: &mut [u8]) -> File
         whole: rest == 0,
         length,
     }
+}
+
+// The line for a file that is missing, cannot be read or is longer (document 01, "One routine, read aloud").
+pub fn unfit(name: &[u8]) {
+    write_all(STDOUT_FILENO, b"FILE ");
+    write_all(STDOUT_FILENO, name);
+    write_all(STDOUT_FILENO, b"\n");
 }

@@ -1,0 +1,72 @@
+// The desk stepper: reads press.bin and press.tkt from the folder it is run in and, where the routine is accepted, runs it from its start and prints one line for each
+// instruction; where it is refused, the refusal and the instruction at the place. docs/WORKSHOPS.md explains the lines and the arguments.
+use accepted::accepted;
+use files::load;
+use files::unfit;
+use io::write_all;
+use libc::STDERR_FILENO;
+use options::Options;
+use refused::refused;
+use rules::Verdict;
+use verdict::verdict;
+
+mod accepted; // a routine that is accepted
+mod marks; // the marks by address
+mod options; // what the arguments ask for
+mod refused; // a routine that is refused
+mod steps; // the instructions of a run
+
+fn usage() {
+    write_all(
+        STDERR_FILENO,
+        b"usage: trace [a=HH] [b=HH] [x=HHHH] [y=HHHH] [flags=HH] [budget=N] [memory=FILE] [summary]\n",
+    );
+}
+
+// The file that argument number i names, from address $0000 on. Whether it could be read.
+fn load_memory(i: usize, mem: &mut [u8]) -> bool {
+    let mut name = io::buffer();
+    let n = os::arg(i, &mut name);
+    if n < 7 {
+        return false;
+    }
+    let file = load(&name[7..n], mem);
+    if !file.whole {
+        unfit(&name[7..n]);
+    }
+    file.whole
+}
+
+fn judge(o: Options, ticket: &[u8], image: &[u8], mem: [u8; 65536]) {
+    match verdict(ticket, image) {
+        Verdict::Refuse(x) => refused(x, ticket, image),
+        Verdict::Accept(_, cost, stack) => accepted(o, ticket, image, mem, cost, stack),
+    }
+}
+
+fn main() {
+    let o = options::read();
+    if !o.good {
+        usage();
+        return;
+    }
+    let mut image = io::large_buffer();
+    let mut ticket = io::large_buffer();
+    let mut mem = io::large_buffer();
+    let i = load(b"press.bin", &mut image);
+    if !i.whole {
+        unfit(b"press.bin");
+        return;
+    }
+    let t = load(b"press.tkt", &mut ticket);
+    if !t.whole {
+        unfit(b"press.tkt");
+        return;
+    }
+    if o.memory != 0 {
+        if !load_memory(o.memory, &mut mem) {
+            return;
+        }
+    }
+    judge(o, &ticket[..t.length], &image[..i.length], mem);
+}

@@ -1,0 +1,156 @@
+// The instructions of a run, one by one: a line for each, or what was seen at each address.
+ghost use Prim.Native.Nat.{_≤_};
+use crate::marks::claim_at;
+use crate::marks::index_of;
+use io::write_all;
+use libc::STDOUT_FILENO;
+use measure::look::measure;
+use memory::byte_at;
+use registers::Cycles;
+use registers::Registers;
+use registers::word::up;
+use stepper::answer::Stepped;
+use stepper::step;
+use text::listing::Listing;
+use text::listing::list;
+use ticket::fields::Ticket;
+use tracelines::step::Traced;
+use tracelines::step::put_step;
+use tracelines::summary::Visits;
+use tracelines::summary::put_summary;
+
+// The registers reached, the cycles spent and the lowest SP so far; of the last instruction, where its mark stands and the cycles to go from it.
+pub struct Reached {
+    pub regs: Registers,
+    pub spent: u32,
+    pub lowest: u16,
+    pub mark: usize,
+    pub go: Cycles,
+}
+
+fn listing_at(mem: &[u8; 65536], a: u16) -> Listing {
+    list(
+        a,
+        byte_at(mem, a),
+        byte_at(mem, up(a, 1)),
+        byte_at(mem, up(a, 2)),
+        byte_at(mem, up(a, 3)),
+        byte_at(mem, up(a, 4)),
+    )
+}
+
+fn lower(a: u16, b: u16) -> u16 {
+    if a < b { a } else { b }
+}
+
+// One instruction, with its line where lines are asked for. `limit` bounds the look ahead.
+fn one(t: Ticket, s: Reached, mem: &mut [u8; 65536], limit: u32, shown: bool) -> Reached {
+    let r = s.regs;
+    let used = measure(r, *mem, limit);
+    let listing = listing_at(mem, r.pc);
+    let mark = index_of(t, r.pc);
+    match step(r, mem) {
+        Stepped::Refused(_) => s,
+        Stepped::Done(after, k) => {
+            let spent = std::num::wrapping_add_u32(s.spent, k.0);
+            if shown {
+                show(Traced {
+                    address: r.pc,
+                    listing,
+                    after,
+                    cycles: Cycles(spent),
+                    used,
+                    claim: claim_at(t, mark),
+                });
+            }
+            Reached {
+                regs: after,
+                spent,
+                lowest: lower(s.lowest, after.sp),
+                mark,
+                go: used.cost,
+            }
+        }
+    }
+}
+
+fn show(t: Traced) {
+    let mut line = [0u8; 256];
+    let n = put_step(t, &mut line);
+    write_all(STDOUT_FILENO, &line[..n]);
+}
+
+fn start(r: Registers) -> Reached {
+    Reached {
+        regs: r,
+        spent: 0,
+        lowest: r.sp,
+        mark: 4096,
+        go: Cycles(0),
+    }
+}
+
+// From a start until `total` cycles are spent, with a line for each instruction.
+pub fn steps(t: Ticket, r: Registers, mem: [u8; 65536], total: u32, limit: u32) -> Reached {
+    let mut m = mem;
+    let mut s = start(r);
+    let mut i: u32 = 0;
+    while i < total {
+        if total <= s.spent {
+            return s;
+        }
+        s = one(t, s, &mut m, limit, true);
+        i += 1;
+    }
+    s
+}
+
+fn seen(v: Visits, go: Cycles) -> Visits {
+    if v.times < 4294967295 { v.with(go) } else { v }
+}
+
+// The same with a line for each mark at the end.
+pub fn summary(t: Ticket, r: Registers, mem: [u8; 65536], total: u32, limit: u32) -> Reached {
+    let mut m = mem;
+    let mut s = start(r);
+    let mut visits = [Visits::NONE; 4096];
+    let mut i: u32 = 0;
+    while i < total {
+        if s.spent < total {
+            s = one(t, s, &mut m, limit, false);
+            let k = s.mark;
+            if k < 4096 {
+                let v = visits[k];
+                visits[k] = seen(v, s.go);
+            }
+        } else {
+            i = total - 1;
+        }
+        i += 1;
+    }
+    addresses(t, &mem, visits);
+    s
+}
+
+// The marks in rising address. The memory is that of the start: no instruction of an accepted routine writes a code byte.
+fn addresses(t: Ticket, mem: &[u8; 65536], visits: [Visits; 4096]) {
+    let marks = t.marks;
+    let count = t.count as usize;
+    let mut i = 0;
+    while i < 4096 {
+        if count <= i {
+            return;
+        }
+        let m = marks[i];
+        let v = visits[i];
+        let claim = m.claim;
+        address(m.address, listing_at(mem, m.address), v, claim.cost);
+        i += 1;
+    }
+}
+
+fn address(a: u16, l: Listing, v: Visits, cost: Cycles) {
+    let mut line = [0u8; 256];
+    let n = put_summary(a, l, v, cost, &mut line);
+    write_all(STDOUT_FILENO, &line[..n]);
+}

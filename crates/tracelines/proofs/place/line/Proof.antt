@@ -1,0 +1,23 @@
+-- `line` meets its contract.
+-- Assumes nothing.
+use borrow.Author.Needs.{needs}
+use native.Mathlib.Omega.{arith}
+use mathlib.Core.Path.{_≡_, refl, sym, _∙_}
+use mathlib.Core.List.{append-assoc}
+use Rattle.tracelines.specs.Columns.{placeLine}
+use Rattle.tracelines.proofs.place.line.Statement.{statement}
+use Rattle.tracelines.proofs.place.line.Tie as tie
+
+returns : tie.Need-returns
+unfolding placeLine
+returns c = let e = c .before .before .before .empty .ensures in let l = c .before .before .with-listing .ensures in let t = c .with-text .ensures in (simp (t .0, l .0, e .0, append-assoc), omega (arith, t .1, l .1, e .1))
+
+pub line-spec : {M : Type 1} → statement M
+line-spec =
+    tie.close
+    (tie.spec
+    (λ c κs. search needs)
+    (λ c κs. search needs)
+    (λ c. search needs)
+    (λ c κs. search needs)
+    returns)
