@@ -1,17 +1,17 @@
--- `opcodes::table::action_of` meets its contract: an arm reads the entry of its number, and `_` lies past them.
+-- `decoder::number::operand_action` meets its contract: an arm reads the entry of its number, and `_` lies past them.
 -- Assumes nothing.
 use mathlib.Core.Path.{sym, ap}
 use native.Mathlib.Omega.{arith}
 use Rattle.opcodes.specs.Numbers.{actionOf}
 use Rattle.opcodes.proofs.Skipped.{skipped}
-use Rattle.opcodes.proofs.table.action_of.Statement.{statement}
-use Rattle.opcodes.proofs.table.action_of.Tie as tie
+use Rattle.decoder.proofs.number.operand_action.Statement.{statement}
+use Rattle.decoder.proofs.number.operand_action.Tie as tie
 
-pub action-of-spec : {M : Type 1} → statement M
-action-of-spec =
+pub operand-action-spec : {M : Type 1} → statement M
+operand-action-spec =
     tie.close
     (tie.spec
-    (λ c κs. skipped (c .before .args .n) 0 30 (omega arith) (c .match .rest))
+    (λ c κs. skipped (c .before .args .n) 67 30 (omega arith) (c .match .rest))
     (λ c. ap actionOf (sym (c .match .keys1)))
     (λ c. ap actionOf (sym (c .match .keys2)))
     (λ c. ap actionOf (sym (c .match .keys3)))
@@ -42,4 +42,4 @@ action-of-spec =
     (λ c. ap actionOf (sym (c .match .keys28)))
     (λ c. ap actionOf (sym (c .match .keys29)))
     (λ c. ap actionOf (sym (c .match .keys30)))
-    (λ c. c .stack-action .ensures))
+    (λ c. c .address-action .ensures))

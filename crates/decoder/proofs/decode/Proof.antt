@@ -1,9 +1,9 @@
--- `opcodes::decode::decode` meets its contract: the callees' promises, put together.
+-- `decoder::decode` meets its contract: the callees' promises, put together.
 -- Assumes nothing.
 use borrow.Author.Needs.{needs}
 use Rattle.opcodes.specs.Decode.{instructionOf}
-use Rattle.opcodes.proofs.decode.decode.Statement.{statement}
-use Rattle.opcodes.proofs.decode.decode.Tie as tie
+use Rattle.decoder.proofs.decode.Statement.{statement}
+use Rattle.decoder.proofs.decode.Tie as tie
 
 action-at-requires : tie.Need-action-at-requires
 action-at-requires c κs = search needs

@@ -1,11 +1,11 @@
--- `opcodes::table::mode_of` meets its contract: an arm reads the entry of its number, and `_` is past the end.
+-- `decoder::number::mode_of` meets its contract: an arm reads the entry of its number, and `_` is past the end.
 -- Assumes nothing.
 use mathlib.Core.Path.{sym, ap}
 use Rattle.opcodes.specs.Numbers.{allModes, modeOf}
 use Rattle.opcodes.specs.declared.instruction.Mode.the-variants.{Inherent}
 use Rattle.opcodes.proofs.Missed.{missed}
-use Rattle.opcodes.proofs.table.mode_of.Statement.{statement}
-use Rattle.opcodes.proofs.table.mode_of.Tie as tie
+use Rattle.decoder.proofs.number.mode_of.Statement.{statement}
+use Rattle.decoder.proofs.number.mode_of.Tie as tie
 
 pub mode-of-spec : {M : Type 1} → statement M
 mode-of-spec =

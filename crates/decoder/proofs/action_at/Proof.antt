@@ -1,9 +1,9 @@
--- `opcodes::decode::action_at` meets its contract: the action of the number that stands there.
+-- `decoder::action_at` meets its contract: the action of the number that stands there.
 -- Assumes nothing.
 use borrow.Author.Needs.{needs}
 use mathlib.Core.Path.{_∙_}
-use Rattle.opcodes.proofs.decode.action_at.Statement.{statement}
-use Rattle.opcodes.proofs.decode.action_at.Tie as tie
+use Rattle.decoder.proofs.action_at.Statement.{statement}
+use Rattle.decoder.proofs.action_at.Tie as tie
 
 returns : tie.Need-returns
 returns c = c .action-of .ensures ∙ c .before .number-at .ensures

@@ -1,18 +1,17 @@
--- `opcodes::table::address_action` meets its contract: an arm reads the entry of its number, and `_` is past the end.
+-- `decoder::number::action_of` meets its contract: an arm reads the entry of its number, and `_` lies past them.
 -- Assumes nothing.
 use mathlib.Core.Path.{sym, ap}
 use native.Mathlib.Omega.{arith}
-use lib.ListN.{List·getD-eq-default}
-use Rattle.opcodes.specs.Numbers.{allActions, actionOf}
-use Rattle.opcodes.specs.declared.instruction.Action.the-variants.{Test}
+use Rattle.opcodes.specs.Numbers.{actionOf}
 use Rattle.opcodes.proofs.Skipped.{skipped}
-use Rattle.opcodes.proofs.table.address_action.Statement.{statement}
-use Rattle.opcodes.proofs.table.address_action.Tie as tie
+use Rattle.decoder.proofs.number.action_of.Statement.{statement}
+use Rattle.decoder.proofs.number.action_of.Tie as tie
 
-pub address-action-spec : {M : Type 1} → statement M
-address-action-spec =
+pub action-of-spec : {M : Type 1} → statement M
+action-of-spec =
     tie.close
     (tie.spec
+    (λ c κs. skipped (c .before .args .n) 0 30 (omega arith) (c .match .rest))
     (λ c. ap actionOf (sym (c .match .keys1)))
     (λ c. ap actionOf (sym (c .match .keys2)))
     (λ c. ap actionOf (sym (c .match .keys3)))
@@ -43,14 +42,4 @@ address-action-spec =
     (λ c. ap actionOf (sym (c .match .keys28)))
     (λ c. ap actionOf (sym (c .match .keys29)))
     (λ c. ap actionOf (sym (c .match .keys30)))
-    (λ c. ap actionOf (sym (c .match .keys31)))
-    (λ c. ap actionOf (sym (c .match .keys32)))
-    (λ c. ap actionOf (sym (c .match .keys33)))
-    (λ c. ap actionOf (sym (c .match .keys34)))
-    (λ c. ap actionOf (sym (c .match .keys35)))
-    (λ c. ap actionOf (sym (c .match .keys36)))
-    (λ c. ap actionOf (sym (c .match .keys37)))
-    (λ c. ap actionOf (sym (c .match .keys38)))
-    (λ c. ap actionOf (sym (c .match .keys39)))
-    (λ c. ap actionOf (sym (c .match .keys40)))
-    (λ c. sym (List·getD-eq-default allActions Test (skipped (c .before .args .n) 97 40 (omega arith) (c .match .rest)))))
+    (λ c. c .stack-action .ensures))

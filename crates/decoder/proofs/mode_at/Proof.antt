@@ -1,9 +1,9 @@
--- `opcodes::decode::mode_at` meets its contract: the mode of the number that stands there.
+-- `decoder::mode_at` meets its contract: the mode of the number that stands there.
 -- Assumes nothing.
 use borrow.Author.Needs.{needs}
 use mathlib.Core.Path.{_∙_}
-use Rattle.opcodes.proofs.decode.mode_at.Statement.{statement}
-use Rattle.opcodes.proofs.decode.mode_at.Tie as tie
+use Rattle.decoder.proofs.mode_at.Statement.{statement}
+use Rattle.decoder.proofs.mode_at.Tie as tie
 
 returns : tie.Need-returns
 returns c = c .mode-of .ensures ∙ c .before .mode-number-at .ensures

@@ -1,11 +1,11 @@
--- `opcodes::table::stack_action` meets its contract: an arm reads the entry of its number, and `_` lies past them.
+-- `decoder::number::stack_action` meets its contract: an arm reads the entry of its number, and `_` lies past them.
 -- Assumes nothing.
 use mathlib.Core.Path.{sym, ap}
 use native.Mathlib.Omega.{arith}
 use Rattle.opcodes.specs.Numbers.{actionOf}
 use Rattle.opcodes.proofs.Skipped.{skipped}
-use Rattle.opcodes.proofs.table.stack_action.Statement.{statement}
-use Rattle.opcodes.proofs.table.stack_action.Tie as tie
+use Rattle.decoder.proofs.number.stack_action.Statement.{statement}
+use Rattle.decoder.proofs.number.stack_action.Tie as tie
 
 pub stack-action-spec : {M : Type 1} → statement M
 stack-action-spec =

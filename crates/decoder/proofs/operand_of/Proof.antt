@@ -1,9 +1,9 @@
--- `opcodes::decode::operand_of` meets its contract: mode by mode, the operand is made as the definition makes it.
+-- `decoder::operand_of` meets its contract: mode by mode, the operand is made as the definition makes it.
 -- Assumes nothing.
 use borrow.Author.Needs.{needs}
 use Rattle.opcodes.specs.Decode.{operandOf}
-use Rattle.opcodes.proofs.decode.operand_of.Statement.{statement}
-use Rattle.opcodes.proofs.decode.operand_of.Tie as tie
+use Rattle.decoder.proofs.operand_of.Statement.{statement}
+use Rattle.decoder.proofs.operand_of.Tie as tie
 
 pub operand-of-spec : {M : Type 1} → statement M
 unfolding operandOf
