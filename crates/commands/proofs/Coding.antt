@@ -19,8 +19,8 @@ use Rattle.commands.specs.Prefix.{afterOf}
 use Rattle.commands.specs.declared.command.Kind.the-variants.{Code, Data, Stack}
 use Rattle.commands.specs.declared.command.Command.{Command}
 use Rattle.commands.specs.declared.command.Command.the-variants as Command
-use Rattle.commands.specs.declared.decode.Decoded.{Decoded}
-use Rattle.commands.specs.declared.decode.Decoded.the-variants as Decoded
+use Rattle.commands.specs.declared.command.Decoded.{Decoded}
+use Rattle.commands.specs.declared.command.Decoded.the-variants as Decoded
 use Rattle.commands.specs.declared.prefix.Prefix.{Prefix}
 use Rattle.commands.proofs.Digits.{length-digits, number-digits, number-below, digits-number, bytes-take, bytes-drop}
 

@@ -13,8 +13,8 @@ use Rattle.commands.specs.declared.command.Kind.the-variants.{Code, Data
 use Rattle.commands.specs.declared.command.Claim.{Claim}
 use Rattle.commands.specs.declared.command.Command.{Command}
 use Rattle.commands.specs.declared.command.Command.the-variants as Command
-use Rattle.commands.specs.declared.decode.Decoded.{Decoded}
-use Rattle.commands.specs.declared.decode.Decoded.the-variants as Decoded
+use Rattle.commands.specs.declared.command.Decoded.{Decoded}
+use Rattle.commands.specs.declared.command.Decoded.the-variants as Decoded
 
 abbrev pub pick {ℓ} : {A : Type ℓ} → Bool → A → A → A
 pick true a b = a

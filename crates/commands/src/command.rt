@@ -31,6 +31,13 @@ pub enum Command {
     End,
 }
 
+// What bytes begin with.
+pub enum Decoded {
+    Unknown, // no command has this byte
+    Cut, // no byte is left, or the operands are cut short
+    Found(Command),
+}
+
 // Document 01's number of the cause, and its place: for a command, the offset of its first byte.
 pub struct Refusal {
     pub number: u8,

@@ -1,3 +1,2 @@
 pub mod Sited
-pub mod Skipped
 pub mod Arms

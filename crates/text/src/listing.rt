@@ -8,10 +8,10 @@ ghost use Rattle.text.specs.Listing.{bytesText, five, listingOf, columnO
 use crate::mnemonic::mnemonic;
 use crate::number::hex2;
 use crate::operand::operand;
+use decoder::action_at;
+use decoder::mode_at;
 use opcodes::decode::Found;
-use opcodes::decode::action_at;
 use opcodes::decode::found_of;
-use opcodes::decode::mode_at;
 use opcodes::table::actions;
 use opcodes::table::costs;
 use opcodes::table::modes;
@@ -28,7 +28,7 @@ pub struct Listing {
 fn column(shown: bool, b: u8) -> [u8; 2]
     ensures { λ r. ⌜ r ≡ columnOf shown b ⌝ }
 {
-    if shown { hex2(b) } else { *b"  " }
+    if shown { hex2(b) } else { [b' ', b' '] }
 }
 
 // The first n of five bytes.
@@ -82,8 +82,8 @@ pub fn list(pc: u16, a: u8, b: u8, c: u8, d: u8, e: u8) -> Listing
     match found_of(a, b, &tc) {
         Found::Nothing => Listing {
             bytes: bytes(1, a, b, c, d, e),
-            mnemonic: *b"-    ",
-            operand: *b"                 ",
+            mnemonic: [b'-', b' ', b' ', b' ', b' '],
+            operand: [b' '; 17],
         },
         Found::At(place, n, k) => {
             let size = (k / 256) as u16;

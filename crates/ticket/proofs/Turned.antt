@@ -8,8 +8,8 @@ use lib.Dec.{eqb}
 use borrow.Author.Tests.{eqb-true}
 use Rattle.commands.specs.declared.command.Command.{Command}
 use Rattle.commands.specs.declared.command.Refusal.{Refusal}
-use Rattle.commands.specs.declared.decode.Decoded.{Decoded}
-use Rattle.commands.specs.declared.decode.Decoded.the-variants.{Unknown, Cut, Found}
+use Rattle.commands.specs.declared.command.Decoded.{Decoded}
+use Rattle.commands.specs.declared.command.Decoded.the-variants.{Unknown, Cut, Found}
 use Rattle.commands.specs.declared.prefix.Prefix.{Prefix}
 use Rattle.commands.specs.declared.admit.Admitted.the-variants.{Refused, Next}
 use Rattle.commands.specs.Admit.{admitOf}

@@ -11,11 +11,11 @@ ghost use Rattle.ticket.specs.RoundTrip.{AllFit, FitsFields};
 use crate::fields::Mark;
 use crate::fields::Name;
 use crate::fields::Ticket;
+use coding::encode::encode;
 use commands::admit::Admitted;
 use commands::admit::then;
 use commands::command::Command;
 use commands::command::Kind;
-use commands::encode::encode;
 use commands::prefix::Header;
 use commands::prefix::start;
 

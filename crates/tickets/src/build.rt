@@ -13,7 +13,7 @@ fn digit(b: u8) -> u8 {
     }
 }
 
-fn byte_at(s: &[u8], i: usize) -> u8 {
+pub fn byte_at(s: &[u8], i: usize) -> u8 {
     if i < s.len() { s[i] } else { b'0' }
 }
 
@@ -21,7 +21,7 @@ fn pair(s: &[u8], i: usize) -> u8 {
     digit(byte_at(s, i)) % 16 * 16 + digit(byte_at(s, wrapping_add_usize(i, 1))) % 16
 }
 
-fn word(s: &[u8], i: usize) -> u16 {
+pub fn word(s: &[u8], i: usize) -> u16 {
     (pair(s, i) as u16) * 256 + (pair(s, wrapping_add_usize(i, 2)) as u16)
 }
 

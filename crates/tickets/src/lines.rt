@@ -1,6 +1,7 @@
-// The lines of a text: one that begins with # is a heading, every other a ticket.
+// The lines of a text: one that begins with # is a heading, one that begins with = a ticket for the writer, every other a ticket to read.
 ghost use Prim.Native.Nat.{_+_, _≤_, _<_};
 ghost use lib.ListN.{length};
+use crate::fields::wrote;
 use crate::print::text;
 use crate::show::show;
 
@@ -9,6 +10,10 @@ fn line(s: &[u8]) {
         if s[0] == b'#' {
             text(s);
             text(b"\n");
+            return;
+        }
+        if s[0] == b'=' {
+            wrote(s);
             return;
         }
     }

@@ -3,7 +3,7 @@ use print::text;
 
 mod build; // a ticket's bytes from a short text
 mod fields; // tickets given to the writer as fields
-mod lines; // the tickets of a file
+mod lines; // the lines of a file
 mod print; // text
 mod show; // what is answered
 
@@ -17,8 +17,4 @@ fn main() {
     let n = io::read_full(fd, &mut file);
     libc::close(fd);
     lines::lines(&file[0..n]);
-    fields::rooms();
-    fields::headers();
-    fields::marks();
-    fields::counts();
 }

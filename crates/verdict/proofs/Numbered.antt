@@ -16,8 +16,8 @@ use Rattle.commands.specs.Prefix.{startOf, afterOf}
 use Rattle.commands.specs.Admit.{admitOf}
 use Rattle.commands.specs.declared.command.Claim.{Claim}
 use Rattle.commands.specs.declared.command.Command.{Command}
-use Rattle.commands.specs.declared.decode.Decoded.{Decoded}
-use Rattle.commands.specs.declared.decode.Decoded.the-variants.{Unknown, Cut, Found}
+use Rattle.commands.specs.declared.command.Decoded.{Decoded}
+use Rattle.commands.specs.declared.command.Decoded.the-variants.{Unknown, Cut, Found}
 use Rattle.commands.specs.declared.prefix.Prefix.{Prefix}
 use Rattle.commands.specs.declared.admit.Admitted.the-variants.{Refused, Next}
 use Rattle.ticket.specs.declared.fields.Mark.{Mark}

@@ -5,7 +5,7 @@ use mathlib.Core.Path.{refl}
 use native.Mathlib.Omega.{arith}
 use Rattle.instructions.proofs.Effects.{opened}
 use Rattle.dispatch.proofs.Arms.{does}
-use Rattle.dispatch.proofs.Skipped.{skipped}
+use Rattle.opcodes.proofs.Skipped.{skipped}
 use Rattle.dispatch.proofs.on_stack.Statement.{statement}
 use Rattle.dispatch.proofs.on_stack.Tie as tie
 

@@ -39,10 +39,9 @@ listed-requires-2 c κs =
 
 returns : tie.Need-returns
 returns c =
-    let t = c .before .before .before .before in
-    let d = t .before .before .before in
-    let h = sym (d .found-of .ensures) ∙ t .before .enum-told .given .1 in
-    simp (nowhere (bytes d) h, t .bytes .ensures)
+    let d = c .before .before .before in
+    let h = sym (d .found-of .ensures) ∙ c .before .enum-told .given .1 in
+    simp (nowhere (bytes d) h, c .bytes .ensures)
 
 returns-2 : tie.Need-returns-2
 returns-2 c =

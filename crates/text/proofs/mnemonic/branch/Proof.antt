@@ -21,25 +21,25 @@ fifteenth : (k : ℕ) → Missed (k % 16) 15 → k % 16 ≡ 15
 fifteenth k m = omega (arith, past (k % 16) 15 m)
 
 last : tie.Need-returns-16
-last c = sym (ap at (fifteenth (c .before .before .before .args .k) (c .before .before .match .rest)))
+last c = sym (ap at (fifteenth (c .before .args .k) (c .match .rest)))
 
 pub branch-spec : {M : Type 1} → statement M
 branch-spec =
     tie.close
     (tie.spec
-    (λ c. sym (ap at (c .before .before .match .keys1)))
-    (λ c. sym (ap at (c .before .before .match .keys2)))
-    (λ c. sym (ap at (c .before .before .match .keys3)))
-    (λ c. sym (ap at (c .before .before .match .keys4)))
-    (λ c. sym (ap at (c .before .before .match .keys5)))
-    (λ c. sym (ap at (c .before .before .match .keys6)))
-    (λ c. sym (ap at (c .before .before .match .keys7)))
-    (λ c. sym (ap at (c .before .before .match .keys8)))
-    (λ c. sym (ap at (c .before .before .match .keys9)))
-    (λ c. sym (ap at (c .before .before .match .keys10)))
-    (λ c. sym (ap at (c .before .before .match .keys11)))
-    (λ c. sym (ap at (c .before .before .match .keys12)))
-    (λ c. sym (ap at (c .before .before .match .keys13)))
-    (λ c. sym (ap at (c .before .before .match .keys14)))
-    (λ c. sym (ap at (c .before .before .match .keys15)))
+    (λ c. sym (ap at (c .match .keys1)))
+    (λ c. sym (ap at (c .match .keys2)))
+    (λ c. sym (ap at (c .match .keys3)))
+    (λ c. sym (ap at (c .match .keys4)))
+    (λ c. sym (ap at (c .match .keys5)))
+    (λ c. sym (ap at (c .match .keys6)))
+    (λ c. sym (ap at (c .match .keys7)))
+    (λ c. sym (ap at (c .match .keys8)))
+    (λ c. sym (ap at (c .match .keys9)))
+    (λ c. sym (ap at (c .match .keys10)))
+    (λ c. sym (ap at (c .match .keys11)))
+    (λ c. sym (ap at (c .match .keys12)))
+    (λ c. sym (ap at (c .match .keys13)))
+    (λ c. sym (ap at (c .match .keys14)))
+    (λ c. sym (ap at (c .match .keys15)))
     last)

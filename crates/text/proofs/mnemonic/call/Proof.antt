@@ -28,8 +28,8 @@ others Mode.MaskBranchY h = refl
 
 rest : tie.Need-returns-2
 rest c =
-    others (c .before .before .before .args .m)
-    (λ e. miss (0 ∷ 1 ∷ 2 ∷ 3 ∷ 4 ∷ 5 ∷ 6 ∷ 8 ∷ 9 ∷ 10 ∷ 11 ∷ 12 ∷ 13 ∷ []) 7 tt (rw e at (c .before .before .match .keys2)))
+    others (c .before .args .m)
+    (λ e. miss (0 ∷ 1 ∷ 2 ∷ 3 ∷ 4 ∷ 5 ∷ 6 ∷ 8 ∷ 9 ∷ 10 ∷ 11 ∷ 12 ∷ 13 ∷ []) 7 tt (rw e at (c .match .keys2)))
 
 pub call-spec : {M : Type 1} → statement M
-call-spec = tie.close (tie.spec (search needs) (λ c. sym (ap callName (c .before .before .enum-told .given .1))) rest)
+call-spec = tie.close (tie.spec (search needs) (λ c. sym (ap callName (c .enum-told .given .1))) rest)

@@ -9,8 +9,8 @@ use lib.ListN.{length, take, drop, length-drop}
 use lib.Seq.{take-all}
 use Rattle.commands.specs.declared.admit.Admitted.{Admitted}
 use Rattle.commands.specs.declared.command.Command.{Command}
-use Rattle.commands.specs.declared.decode.Decoded.{Decoded}
-use Rattle.commands.specs.declared.decode.Decoded.the-variants.{Found}
+use Rattle.commands.specs.declared.command.Decoded.{Decoded}
+use Rattle.commands.specs.declared.command.Decoded.the-variants.{Found}
 use Rattle.commands.specs.declared.prefix.Prefix.{Prefix}
 use Rattle.commands.specs.Admit.{admitOf}
 use Rattle.commands.specs.Bytes.{decodeOf}
