@@ -17,7 +17,7 @@
 	.endm
 
 	mark	0x8000, 21, 0, 0	; ldaa #0x80
-	mark	0x8002, 19, 0, 0	; staa *valve
+	mark	0x8002, 19, 0, 0	; staa *relay
 	mark	0x8004, 16, 0, 0	; wait: ldaa *switch
 	mark	0x8006, 13, 0, 0	; bpl wait
 	mark	0x8008, 10, 0, 0	; ldaa #120

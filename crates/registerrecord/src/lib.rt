@@ -1,4 +1,4 @@
-// An inner crate: one instruction on a register record that is lent. Like the stepper, it takes any registers and any memory.
+// The register record lent: `advance` is one instruction on it. Like the stepper's calls it takes any registers and any memory.
 ghost use mathlib.Core.Path.{_≡_};
 ghost use Rattle.registerrecord.specs.Advance.{afterwards, advanceOf};
 use registers::Cycles;

@@ -11,6 +11,7 @@ use Rattle.opcodes.proofs.Says.{Said, there-says, nowhere-says}
 use Rattle.opcodes.specs.Tables.{costAt}
 use Rattle.opcodes.specs.Decode.{Bytes, pick, placeIn, opcodeSize, foundOf}
 use Rattle.opcodes.specs.declared.decode.Found.the-variants as Found
+use Rattle.text.specs.declared.listing.Listing.{Listing}
 use Rattle.text.specs.Listing.{bytesText, noListing, listingAt, listingOf, five}
 
 -- an opcode has one byte or two
@@ -47,12 +48,16 @@ module _ (f : Bytes) where
     unfolding listingOf
     there pc = simp (says .0, ne-eqb _ _ (says .3), says .1)
 
+-- by what the two tests of the definition say
+abbrev byTests : (none small : Bool) (pc place : ℕ) → Bytes → Listing
+byTests none small pc place f = pick none (noListing f) (listingAt pc place (pick small 1 2) f)
+
 -- so a memory or an image is listed by the five bytes from an address on
 pub by-five : (pc : ℕ) (f : Bytes) → listingOf pc f ≡ listingOf pc (five (f 0) (f 1) (f 2) (f 3) (f 4))
 unfolding listingOf bytesText opcodeSize
 by-five pc f = by (eqb (costAt (placeIn f)) 0) (ltb (placeIn f) 256)
   where
-    by : (none : Bool) (small : Bool) → (let p = placeIn f in pick none (noListing f) (listingAt pc p (pick small 1 2) f)) ≡ (let p = placeIn f in let g = five (f 0) (f 1) (f 2) (f 3) (f 4) in pick none (noListing g) (listingAt pc p (pick small 1 2) g))
+    by : (none small : Bool) → byTests none small pc (placeIn f) f ≡ byTests none small pc (placeIn f) (five (f 0) (f 1) (f 2) (f 3) (f 4))
     by true small = refl
     by false true = refl
     by false false = refl

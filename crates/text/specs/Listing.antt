@@ -24,7 +24,7 @@ spaced (b ∷ c ∷ l) = byteHex b ++ (ascii " " ++ spaced (c ∷ l))
 unfoldable pub bytesText : ℕ → Bytes → List ℕ
 bytesText n f = padded 14 (spaced (take n (f 0 ∷ f 1 ∷ f 2 ∷ f 3 ∷ f 4 ∷ [])))
 
--- a byte's column: its digits, or spaces in their place
+-- a byte's column in the code: its digits, or spaces where the instruction has ended
 abbrev pub columnOf : Bool → ℕ → List ℕ
 columnOf shown b = pick shown (byteHex b) (ascii "  ")
 
@@ -45,5 +45,6 @@ listingAt pc place n f =
 unfoldable pub listingOf : ℕ → Bytes → Listing
 listingOf pc f = let p = placeIn f in pick (eqb (costAt p) 0) (noListing f) (listingAt pc p (opcodeSize p) f)
 
+-- five bytes
 abbrev pub five : (a b c d e : ℕ) → Bytes
 five a b c d e = λ i. getD (a ∷ b ∷ c ∷ d ∷ e ∷ []) i 0

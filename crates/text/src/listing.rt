@@ -24,7 +24,7 @@ pub struct Listing {
     pub operand: [u8; 17],
 }
 
-// A byte's digits, or spaces in their place.
+// A byte's digits, or spaces where the instruction has ended.
 fn column(shown: bool, b: u8) -> [u8; 2]
     ensures { λ r. ⌜ r ≡ columnOf shown b ⌝ }
 {

@@ -1,4 +1,4 @@
-// The name of an instruction, padded with spaces to five bytes.
+// The name of an instruction, padded with spaces to five bytes. The names are arrays and not byte strings, which are read through a reference: thirty of these took 18 seconds to check.
 ghost use mathlib.Core.Path.{_≡_};
 ghost use mathlib.Core.List.{[], _∷_, _++_};
 ghost use Rattle.text.specs.Text.{padded};
@@ -146,6 +146,7 @@ fn call(m: Mode) -> [u8; 5]
     }
 }
 
+// A name of three letters; then with a register's letter after it.
 fn three(name: [u8; 3]) -> [u8; 5]
     ensures { λ r. ⌜ r ≡ padded 5 name ⌝ }
 {

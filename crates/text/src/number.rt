@@ -45,6 +45,7 @@ pub fn hex4(n: u16) -> [u8; 4]
     ]
 }
 
+// Four hexadecimal digits.
 pub fn put_hex(out: &mut [u8], at: usize, n: u16) -> usize
     requires { ⌜ at + 4 ≤ length (now out) ⌝ }
     ensures { λ r. ⌜ (now (out .exit) ≡ spliced (now (out .entry)) at (hexOf n)) × (r ≡ at + 4) ⌝ }

@@ -6,11 +6,11 @@ use io::write_all;
 use libc::STDOUT_FILENO;
 use measure::look::measure;
 use memory::byte_at;
+use registerrecord::Advanced;
+use registerrecord::advance_copy;
 use registers::Cycles;
 use registers::Registers;
 use registers::word::up;
-use stepper::answer::Stepped;
-use stepper::step;
 use text::listing::Listing;
 use text::listing::list;
 use ticket::fields::Ticket;
@@ -49,9 +49,12 @@ fn one(t: Ticket, s: Reached, mem: &mut [u8; 65536], limit: u32, shown: bool) ->
     let used = measure(r, *mem, limit);
     let listing = listing_at(mem, r.pc);
     let mark = index_of(t, r.pc);
-    match step(r, mem) {
-        Stepped::Refused(_) => s,
-        Stepped::Done(after, k) => {
+    let next = advance_copy(r, mem);
+    let answer = next.answer;
+    let after = next.registers;
+    match answer {
+        Advanced::Refused(_) => s,
+        Advanced::Done(k) => {
             let spent = std::num::wrapping_add_u32(s.spent, k.0);
             if shown {
                 show(Traced {

@@ -13,4 +13,9 @@ returns c =
     (shown (z .a) (z .b) (z .c) (z .d) (z .e) (z .n))
 
 pub bytes-spec : {M : Type 1} → statement M
-bytes-spec = tie.close (tie.spec (search needs) (search needs) (search needs) (search needs) (search needs) (search needs) (search needs) (search needs) (search needs) (search needs) (search needs) (search needs) (search needs) (search needs) (search needs) returns)
+bytes-spec =
+    tie.close
+    (tie.spec
+    (search needs) (search needs) (search needs) (search needs) (search needs) (search needs) (search needs) (search needs)
+    (search needs) (search needs) (search needs) (search needs) (search needs) (search needs) (search needs)
+    returns)

@@ -1,16 +1,14 @@
 -- `list` meets its contract: the place is the one that is found at the first two bytes, and the operand starts after one byte or two.
 -- Assumes nothing.
 use borrow.Author.Needs.{needs}
-use mathlib.Core.Path.{_≡_, sym, _∙_}
+use mathlib.Core.Path.{sym, _∙_}
 use mathlib.Core.Logic.{⊎-elim}
 use native.Mathlib.Omega.{arith}
-use Rattle.opcodes.specs.Decode.{Bytes, foundOf}
+use Rattle.opcodes.specs.Decode.{Bytes}
 use Rattle.text.specs.Listing.{five}
 use Rattle.text.proofs.Listed.{nowhere, in-tables, entry, narrow, size, there}
 use Rattle.text.proofs.listing.list.Statement.{statement}
 use Rattle.text.proofs.listing.list.Tie as tie
-use Rattle.text.proofs.listing.list.Reads as reads
-use Rattle.text.proofs.listing.list.Lts as lts
 
 -- back to the call
 abbrev called : tie.After-found-of → tie.Start

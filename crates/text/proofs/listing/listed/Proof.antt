@@ -1,11 +1,8 @@
--- `listed` meets its contract.
+-- `listed` meets its contract: name and operand are those of the action and the mode that the tables hold.
 -- Assumes nothing.
 use borrow.Author.Needs.{needs}
-use mathlib.Core.Path.{_≡_, refl}
 use Rattle.text.proofs.listing.listed.Statement.{statement}
 use Rattle.text.proofs.listing.listed.Tie as tie
-use Rattle.text.proofs.listing.listed.Reads as reads
-use Rattle.text.proofs.listing.listed.Lts as lts
 
 returns : tie.Need-returns
 returns c =

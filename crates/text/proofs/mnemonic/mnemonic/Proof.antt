@@ -9,6 +9,7 @@ use Rattle.text.specs.Mnemonic.{mnemonicOf}
 use Rattle.text.proofs.mnemonic.mnemonic.Statement.{statement}
 use Rattle.text.proofs.mnemonic.mnemonic.Tie as tie
 
+-- the name by the action, at the mode of the call
 abbrev at : tie.Start → Action → List ℕ
 at z a = mnemonicOf a (z .args .m)
 

@@ -11,4 +11,8 @@ returns c =
     rw (c .before .before .before .before .before .hex4 .ensures) at (c .before .before .put-text .ensures)
 
 pub put-hex-spec : {M : Type 1} → statement M
-put-hex-spec = tie.close (tie.spec (search needs) (search needs) (search needs) (search needs) returns)
+put-hex-spec =
+    tie.close
+    (tie.spec
+    (search needs) (search needs) (search needs) (search needs)
+    returns)
