@@ -29,13 +29,13 @@ fn used(r: Registers, s: Reached) -> StackBytes {
 fn home(t: Totals) {
     let mut line = [0u8; 256];
     let n = put_home(t, &mut line);
-    write_all(STDOUT_FILENO, &line[..n]);
+    write_all(STDOUT_FILENO, &line[0..n]);
 }
 
 fn spent(t: Totals) {
     let mut line = [0u8; 256];
     let n = put_spent(t, &mut line);
-    write_all(STDOUT_FILENO, &line[..n]);
+    write_all(STDOUT_FILENO, &line[0..n]);
 }
 
 fn walk(

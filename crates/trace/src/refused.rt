@@ -1,4 +1,5 @@
 // A routine that is refused: the line of the checking program, and the instruction at the place.
+ghost use Prim.Native.Nat.{_<_};
 use commands::command::Refusal;
 use commands::command::Window;
 use io::write_all;
@@ -15,7 +16,9 @@ fn byte(image: &[u8], i: usize) -> u8 {
     if i < image.len() { image[i] } else { 0 }
 }
 
-fn instruction(image: &[u8], i: usize, a: u16) {
+fn instruction(image: &[u8], i: usize, a: u16)
+    requires { ⌜ i < 65536 ⌝ }
+{
     let mut line = [0u8; 256];
     let l = list(
         a,
@@ -26,7 +29,7 @@ fn instruction(image: &[u8], i: usize, a: u16) {
         byte(image, i + 4),
     );
     let n = put_place(a, l, &mut line);
-    write_all(STDOUT_FILENO, &line[..n]);
+    write_all(STDOUT_FILENO, &line[0..n]);
 }
 
 // Of the causes 10 to 20 the place is an address; it may lie outside the image.

@@ -1,5 +1,4 @@
 // The instructions of a run, one by one: a line for each, or what was seen at each address.
-ghost use Prim.Native.Nat.{_≤_};
 use crate::marks::claim_at;
 use crate::marks::index_of;
 use io::write_all;
@@ -49,6 +48,7 @@ fn one(t: Ticket, s: Reached, mem: &mut [u8; 65536], limit: u32, shown: bool) ->
     let used = measure(r, *mem, limit);
     let listing = listing_at(mem, r.pc);
     let mark = index_of(t, r.pc);
+    let go = used.cost;
     let next = advance_copy(r, mem);
     let answer = next.answer;
     let after = next.registers;
@@ -71,7 +71,7 @@ fn one(t: Ticket, s: Reached, mem: &mut [u8; 65536], limit: u32, shown: bool) ->
                 spent,
                 lowest: lower(s.lowest, after.sp),
                 mark,
-                go: used.cost,
+                go,
             }
         }
     }
@@ -80,7 +80,7 @@ fn one(t: Ticket, s: Reached, mem: &mut [u8; 65536], limit: u32, shown: bool) ->
 fn show(t: Traced) {
     let mut line = [0u8; 256];
     let n = put_step(t, &mut line);
-    write_all(STDOUT_FILENO, &line[..n]);
+    write_all(STDOUT_FILENO, &line[0..n]);
 }
 
 fn start(r: Registers) -> Reached {
@@ -100,7 +100,7 @@ pub fn steps(t: Ticket, r: Registers, mem: [u8; 65536], total: u32, limit: u32) 
     let mut i: u32 = 0;
     while i < total {
         if total <= s.spent {
-            return s;
+            break;
         }
         s = one(t, s, &mut m, limit, true);
         i += 1;
@@ -108,8 +108,17 @@ pub fn steps(t: Ticket, r: Registers, mem: [u8; 65536], total: u32, limit: u32) 
     s
 }
 
-fn seen(v: Visits, go: Cycles) -> Visits {
-    if v.times < 4294967295 { v.with(go) } else { v }
+// What is seen at the mark of an instruction.
+fn noted(visits: [Visits; 4096], mark: usize, go: Cycles) -> [Visits; 4096] {
+    let mut r = visits;
+    if 4096 <= mark {
+        return r;
+    }
+    let v = r[mark];
+    if v.times < 4294967295 {
+        r[mark] = v.with(go);
+    }
+    r
 }
 
 // The same with a line for each mark at the end.
@@ -119,16 +128,13 @@ pub fn summary(t: Ticket, r: Registers, mem: [u8; 65536], total: u32, limit: u32
     let mut visits = [Visits::NONE; 4096];
     let mut i: u32 = 0;
     while i < total {
-        if s.spent < total {
-            s = one(t, s, &mut m, limit, false);
-            let k = s.mark;
-            if k < 4096 {
-                let v = visits[k];
-                visits[k] = seen(v, s.go);
-            }
-        } else {
-            i = total - 1;
+        if total <= s.spent {
+            break;
         }
+        s = one(t, s, &mut m, limit, false);
+        let go = s.go;
+        let next = noted(visits, s.mark, go);
+        visits = next;
         i += 1;
     }
     addresses(t, &mem, visits);
@@ -155,5 +161,5 @@ fn addresses(t: Ticket, mem: &[u8; 65536], visits: [Visits; 4096]) {
 fn address(a: u16, l: Listing, v: Visits, cost: Cycles) {
     let mut line = [0u8; 256];
     let n = put_summary(a, l, v, cost, &mut line);
-    write_all(STDOUT_FILENO, &line[..n]);
+    write_all(STDOUT_FILENO, &line[0..n]);
 }

@@ -10,7 +10,9 @@ use Rattle.tracelines.proofs.columns.with_registers.Tie as tie
 
 returns : tie.Need-returns
 unfolding hexOf flagsText registersText
-returns c = let t = c .with-text .ensures in (simp (t .0, c .before .before .flags .ensures, c .before .before .before .hex43 .ensures, c .before .before .before .before .hex42 .ensures, c .before .before .before .before .before .hex4 .ensures, c .before .before .before .before .before .before .hex22 .ensures, c .before .before .before .before .before .before .before .hex2 .ensures), t .1)
+returns c =
+    let t = c .with-text .ensures in
+    (simp (t .0, c .before .before .flags .ensures, c .before .before .before .hex43 .ensures, c .before .before .before .before .hex42 .ensures, c .before .before .before .before .before .hex4 .ensures, c .before .before .before .before .before .before .hex22 .ensures, c .before .before .before .before .before .before .before .hex2 .ensures), t .1)
 
 pub with-registers-spec : {M : Type 1} → statement M
 with-registers-spec =

@@ -10,7 +10,11 @@ use Rattle.tracelines.proofs.place.line.Tie as tie
 
 returns : tie.Need-returns
 unfolding placeLine
-returns c = let e = c .before .before .before .empty .ensures in let l = c .before .before .with-listing .ensures in let t = c .with-text .ensures in (simp (t .0, l .0, e .0, append-assoc), omega (arith, t .1, l .1, e .1))
+returns c =
+    let e = c .before .before .before .empty .ensures in
+    let l = c .before .before .with-listing .ensures in
+    let t = c .with-text .ensures in
+    (simp (t .0, l .0, e .0, append-assoc), omega (arith, t .1, l .1, e .1))
 
 pub line-spec : {M : Type 1} → statement M
 line-spec =

@@ -10,7 +10,11 @@ use Rattle.tracelines.proofs.step.with_claims.Tie as tie
 
 returns : tie.Need-returns
 unfolding claimsText
-returns c = let p = c .before .before .before .before .before .before .before .before .with-pair .ensures in let q = c .before .before .before .before .with-pair2 .ensures in let r = c .with-pair3 .ensures in (simp (r .0, q .0, p .0, append-assoc), omega (arith, r .1, q .1, p .1))
+returns c =
+    let p = c .before .before .before .before .before .before .before .before .with-pair .ensures in
+    let q = c .before .before .before .before .with-pair2 .ensures in
+    let r = c .with-pair3 .ensures in
+    (simp (r .0, q .0, p .0, append-assoc), omega (arith, r .1, q .1, p .1))
 
 pub with-claims-spec : {M : Type 1} → statement M
 with-claims-spec =
