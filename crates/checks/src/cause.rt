@@ -16,7 +16,7 @@ pub enum Marked {
     At(Claim),
 }
 
-// The first address past a window. It can be 65,536.
+// The first address past a window. It is more than 65,536 where the window runs past $FFFF.
 pub fn past(w: Window) -> u32
     ensures { λ r. ⌜ r ≡ pastOf w ⌝ }
 {

@@ -1,4 +1,4 @@
--- A command after those before it: refused with its cause at its offset, or read, with what it leaves for the next.
+-- A command after those before it: refused with its cause at its offset, or read, with what it leaves for the next (document 01, "Where a ticket stops": commands in file order, the first failure is the answer).
 -- Assumes nothing.
 use lib.Dec.{eqb}
 use Rattle.commands.specs.Bytes.{pick}

@@ -38,7 +38,7 @@ allInRange (o ∷ os) (v ∷ vs) = inRange o v && allInRange os vs
 unfoldable pub rangesHold : Command → Bool
 rangesHold c = allInRange (rowOf (byteOf c)) (operandsOf c)
 
--- the first address past a window, at most 65,536
+-- the first address past a window; more than 65,536 where it runs past $FFFF
 abbrev pub pastOf : Window → ℕ
 pastOf w = w .start + w .length
 

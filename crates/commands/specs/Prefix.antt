@@ -1,4 +1,4 @@
--- What the commands so far leave for the next.
+-- What the commands so far leave for the next (document 01, "The ticket": the order of the commands).
 -- Assumes nothing.
 use Prim.Native.Nat.{ℕ, _+_, _*_, _≤_, _<_}
 use mathlib.Core.Path.{_≡_}

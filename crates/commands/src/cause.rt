@@ -89,7 +89,7 @@ fn ranges_hold(c: Command) -> bool
     }
 }
 
-// The first address past a window. It can be 65,536.
+// The first address past a window. It is more than 65,536 where the window runs past $FFFF.
 fn past(w: Window) -> u32
     ensures { λ r. ⌜ r ≡ pastOf w ⌝ }
 {

@@ -1,5 +1,5 @@
 -- The effect of an instruction, as data: the registers afterwards and the stores in order. PC, SP and the addresses stored to come from
--- the form, the rest from what is computed over values.
+-- the form, the rest from what is computed over values (the manual's "Operation" of each entry; document 01, "The machine").
 -- Assumes nothing.
 use Prim.Native.Nat.{ℕ}
 use mathlib.Core.Path.{_≡_}

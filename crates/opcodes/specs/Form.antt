@@ -1,5 +1,5 @@
 -- The form of an instruction, from its action, its operand and the address after it: what it does to PC, SP and memory.
--- The step takes PC, SP and the addresses that are written from it, and so will the ticket rules (document 01, "Rules at a mark").
+-- The step takes PC, SP and the addresses that are written from it, and so do the ticket rules (`rules/specs/Shape.antt`; document 01, "Rules at a mark").
 -- Assumes nothing.
 use Prim.Native.Nat.{ℕ, _+_, _%_}
 use mathlib.Core.Bool.{Bool, true, false}

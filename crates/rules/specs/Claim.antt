@@ -1,4 +1,4 @@
--- Demand 3 as a statement about `stepOf`'s instructions and `runOf`: an accepted routine comes home.
+-- Demand 3 as a statement about `stepOf`'s instructions and `runOf`: an accepted routine comes home (document 01, "Start" and "The way home").
 -- Assumes nothing.
 use Prim.Native.Nat.{ℕ, _+_, _-_, _≤_, _<_}
 use mathlib.Core.Path.{_≡_}

@@ -1,4 +1,4 @@
--- The next instruction, wherever it stands, and the run from there: what the loop that a step and a run share comes to.
+-- The next instruction, wherever it stands, and the run from there: what the loop that a step and a run share comes to. An inner matter of the code.
 -- Assumes nothing.
 use Prim.Native.Nat.{ℕ}
 use mathlib.Core.Path.{_≡_}

@@ -1,4 +1,4 @@
--- The shape of a line, `K C BEFORE AFTER N MEMORY W WRITES`: which places hold a space, which a digit, and how long it is.
+-- The shape of a line, `K C BEFORE AFTER N MEMORY W WRITES`: which places hold a space, which a digit, and how long it is (docs/SIMULATORS.md, "The file").
 -- Assumes nothing.
 use Prim.Native.Nat.{ℕ, _+_, _-_, _*_, _%_, _≤_, _<_}
 use mathlib.Core.Path.{_≡_}

@@ -1,4 +1,4 @@
--- What is counted of lines and of places. The counts wrap at 2^32.
+-- What is counted of lines (docs/SIMULATORS.md, "The file"). The counts wrap at 2^32.
 -- Assumes nothing.
 use Prim.Native.Nat.{ℕ, _+_, _%_}
 use lib.Dec.{eqb}

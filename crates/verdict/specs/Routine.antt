@@ -1,4 +1,4 @@
--- A routine judged and, where it is accepted, started; and that what is started comes home (demand 3).
+-- A routine judged and, where it is accepted, started; and that what is started comes home (document 01, "Start", "The way home": demand 3).
 -- Assumes nothing.
 use Prim.Native.Nat.{ℕ, _-_}
 use mathlib.Core.Path.{_≡_}

@@ -1,3 +1,6 @@
+-- `go` meets its contract. The invariant of its loop: memory is as long as it was, PC fits 16 bits, and the run from here with the budget left
+-- comes to what the run from the call does. The measure is the budget left, which each instruction lessens.
+-- Assumes nothing.
 use borrow.Author.Needs.{needs}
 use mathlib.Core.Path.{_≡_, refl, sym, _∙_}
 use native.Mathlib.Omega.{arith}
