@@ -1,13 +1,13 @@
 -- Document 01's twelve proved cases, as one table. `proofs/Table.antt` has the theorem that all of them hold.
 -- Assumes nothing.
 use mathlib.Core.Path.{_≡_}
+use mathlib.Core.Bool.{cond}
 use mathlib.Core.List.{List, [], _∷_, _++_}
 use Prim.Native.Nat.{ℕ, zero, suc, _-_}
 use lib.Dec.{leb}
 use lib.ListN.{length, replicate}
 use Rattle.registers.specs.Registers.{startOf}
 use Rattle.registers.specs.declared.Registers.{Registers}
-use Rattle.opcodes.specs.Decode.{pick}
 use Rattle.stepper.specs.Answer.{Answer, done, refused, RunAnswer, home, spent}
 use Rattle.stepper.specs.Step.{stepOf}
 use Rattle.stepper.specs.Run.{runOf}
@@ -29,7 +29,7 @@ regs a b x sp pc f = record { x = x; y = 0; sp = sp; pc = pc; a = a; b = b; flag
 
 -- the lowest SP before and after each of some steps, as far as they are done
 abbrev pub lowestAfter : ℕ → Answer → List ℕ → (Registers → List ℕ → ℕ) → ℕ
-lowestAfter sp (done q k) m rest = let l = rest q m in pick (leb sp l) sp l
+lowestAfter sp (done q k) m rest = let l = rest q m in cond (leb sp l) sp l
 lowestAfter sp (refused i p) m rest = sp
 
 abbrev pub lowestOf : ℕ → Registers → List ℕ → ℕ

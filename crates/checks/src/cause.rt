@@ -1,7 +1,8 @@
 // Document 01's causes 10 to 17 at a mark, on values: the mark's claim, the shape of its instruction and the claims at its successors.
 ghost use mathlib.Core.Path.{_≡_};
 ghost use Rattle.commands.specs.Cause.{pastOf, holds};
-ghost use Rattle.checks.specs.Cause.{inData, depthAgrees, costCovers, needCovers, followsOf, ordinaryOf, calledOf, callOf, returnOf, causeOf};
+ghost use Rattle.rules.specs.Checks.{depthAgrees, costCovers, needCovers};
+ghost use Rattle.checks.specs.Cause.{inData, followsOf, ordinaryOf, calledOf, callOf, returnOf, causeOf};
 use commands::command::Claim;
 use commands::command::Window;
 use registers::Cycles;

@@ -5,12 +5,12 @@ use native.Mathlib.Nat.{eq-zero-or-pos}
 use native.Mathlib.Omega.{arith}
 use mathlib.Core.Logic.{⊎-elim}
 use mathlib.Core.Path.{_≡_, refl, ap}
-use mathlib.Core.Bool.{Bool, true, false, _||_}
+use mathlib.Core.Bool.{Bool, true, false, cond, _||_}
 use lib.Dec.{eqb, ltb, leb}
 use borrow.Author.Tests.{ltb-true, leb-true, eqb-true, ne-eqb}
 use Rattle.commands.specs.Rows.{between}
-use Rattle.commands.specs.Bytes.{pick}
-use Rattle.commands.specs.Prefix.{startOf, bit, withWindow, stagedOf, markedOf, namedOf, afterOf, Sound}
+use Rattle.registers.specs.Flags.{one}
+use Rattle.commands.specs.Prefix.{startOf, withWindow, stagedOf, markedOf, namedOf, afterOf, Sound}
 use Rattle.commands.specs.Cause.{rangesHold, causeOf}
 use Rattle.commands.specs.Admit.{admitOf, thenOf, SoundSoFar, stopped, sound}
 use Rattle.commands.specs.declared.command.Window.{Window}
@@ -67,7 +67,7 @@ module _ (p : Prefix) (s : Sound p) where
   to-name : p .stage ≡ 4 → p .nameable ≡ true → Sound (namedOf p)
   to-name body nameable =
       let l = s .late (omega arith) in
-      let b = ap bit nameable in
+      let b = ap one nameable in
       record {
         stages = s .stages;
         early = omega arith;
@@ -116,7 +116,7 @@ pub sound-after : (p : Prefix) (c : Command) → Sound p → causeOf p c ≡ 0 �
 sound-after p c s e = after p s c (allowed p c e)
 
 module _ (p : Prefix) (c : Command) (s : Sound p) where
-  picked : (r : Refusal) (b : Bool) → eqb (causeOf p c) 0 ≡ b → SoundSoFar (pick b (Next (afterOf p c)) (Refused r))
+  picked : (r : Refusal) (b : Bool) → eqb (causeOf p c) 0 ≡ b → SoundSoFar (cond b (Next (afterOf p c)) (Refused r))
   picked r true e = sound (sound-after p c s (eqb-true _ _ e))
   picked r false e = stopped
 

@@ -1,7 +1,7 @@
 -- What is found says the place, the size of the opcode and the entry.
 -- Assumes nothing.
 use mathlib.Core.Path.{_≡_, refl, ap, _∙_}
-use mathlib.Core.Bool.{Bool, true, false}
+use mathlib.Core.Bool.{Bool, true, false, cond}
 use Prim.Native.Nat.{ℕ}
 use native.Mathlib.Omega.{arith}
 use lib.Dec.{eqb}
@@ -9,10 +9,10 @@ use borrow.Author.Tests.{eqb-true, eqb-false}
 use Rattle.opcodes.specs.Tables.{costAt}
 use Rattle.opcodes.specs.declared.decode.Found.{Found}
 use Rattle.opcodes.specs.declared.decode.Found.the-variants as Found
-use Rattle.opcodes.specs.Decode.{pick, placeOf, opcodeSize, foundOf}
+use Rattle.opcodes.specs.Decode.{placeOf, opcodeSize, foundOf}
 
 abbrev foundBy : ℕ → Bool → Found
-foundBy q b = pick b Found.Nothing (Found.At q (opcodeSize q) (costAt q))
+foundBy q b = cond b Found.Nothing (Found.At q (opcodeSize q) (costAt q))
 
 there-by : (q : ℕ) (b : Bool) → eqb (costAt q) 0 ≡ b → (p s e : ℕ) → foundBy q b ≡ Found.At p s e
     → (q ≡ p) × (opcodeSize p ≡ s) × (costAt p ≡ e) × (costAt p ≡ 0 → ⊥)

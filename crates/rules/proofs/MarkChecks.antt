@@ -12,12 +12,13 @@ use Rattle.commands.specs.declared.command.Window.{Window}
 use Rattle.commands.specs.Cause.{holds}
 use Rattle.ticket.specs.declared.fields.Mark.{Mark}
 use Rattle.ticket.specs.Fields.{Fields}
-use Rattle.ticket.specs.Rules.{Every, In}
+use Rattle.commands.specs.Every.{Every}
+use Rattle.ticket.specs.Rules.{In}
 use Rattle.ticket.proofs.Says.{and-says, leb-says, ltb-says, eqb-says}
 use Rattle.rules.specs.Shape.{Shape, ordinary, call, return, forbidden, nothing}
 use Rattle.rules.specs.Marks.{claimAt}
 use Rattle.rules.specs.Rules.{Follows, CallRules, RulesBy, RulesAt}
-use Rattle.rules.specs.Checks.{all, isMarked, nextMarked, depthsAgree, costCovers, needCovers, checksBy, checksAt, checksOfMarks}
+use Rattle.rules.specs.Checks.{all, isMarked, nextMarked, depthsAgree, costsCover, needsCover, checksBy, checksAt, checksOfMarks}
 use Rattle.rules.proofs.Passes.{Passes, append-says}
 
 pub ruleset tests = (and-says, leb-says, ltb-says, eqb-says)
@@ -35,7 +36,7 @@ written-says w (a ∷ l) = simp (tests, written-says w l) (λ e. Every.more (e .
 
 -- the checks of causes 14 to 17 pass
 abbrev LeadsOn : Fields → Claim → Shape → Type 0
-LeadsOn f k s = (nextMarked f k s ≡ true) × (depthsAgree f k s ≡ true) × (costCovers f k s ≡ true) × (needCovers f k s ≡ true)
+LeadsOn f k s = (nextMarked f k s ≡ true) × (depthsAgree f k s ≡ true) × (costsCover f k s ≡ true) × (needsCover f k s ≡ true)
 
 module _ (f : Fields) (k : Claim) where
   next-says : (pushed pulled cycles : ℕ) (l w : List ℕ) → LeadsOn f k (ordinary l pushed pulled w cycles) ↔ Every (Follows (f .marks) k pushed pulled cycles) l

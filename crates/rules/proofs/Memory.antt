@@ -11,7 +11,7 @@ use lib.Seq.{getD-set-same, getD-set-other}
 use Rattle.registers.specs.Word.{plus, less}
 use Rattle.registers.proofs.Wrap.{plus-plus}
 use Rattle.memory.specs.Memory.{Store, byteAt, wordAt, withByte, applied, pushStores}
-use Rattle.ticket.specs.Rules.{Every, none, more}
+use Rattle.commands.specs.Every.{Every, none, more}
 use Rattle.rules.proofs.Obeys.{Some}
 
 pub every-map : {A : Type 0} {P Q : A → Type 0} {l : List A} → ((a : A) → P a → Q a) → Every P l → Every Q l

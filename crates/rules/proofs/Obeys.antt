@@ -2,7 +2,7 @@
 -- Assumes nothing.
 use Prim.Native.Nat.{ℕ, _+_, _-_, _/_, _%_, _≤_, _<_}
 use mathlib.Core.Path.{_≡_, refl, ap}
-use mathlib.Core.Bool.{Bool, true, false}
+use mathlib.Core.Bool.{Bool, true, false, cond}
 use mathlib.Core.Logic.{_⊎_, inl, inr}
 use mathlib.Core.List.{List, [], _∷_}
 use native.Mathlib.Omega.{arith}
@@ -12,7 +12,7 @@ use Rattle.registers.specs.Word.{plus, less}
 use Rattle.registers.specs.Registers.{withPc}
 use Rattle.registers.specs.declared.Registers.{Registers}
 use Rattle.memory.specs.Memory.{Store, store, wordAt}
-use Rattle.opcodes.specs.Decode.{pick, placeIn, decodeOf}
+use Rattle.opcodes.specs.Decode.{placeIn, decodeOf}
 use Rattle.opcodes.specs.Form.{formOf, waits}
 use Rattle.opcodes.specs.Tables.{lengthAt, cyclesAt}
 use Rattle.opcodes.specs.declared.instruction.Address.the-variants.{Fixed, IndexedX, IndexedY}
@@ -25,7 +25,7 @@ use Rattle.instructions.specs.Outcome.{Outcome, outcomeOf}
 use Rattle.instructions.specs.Effect.{effectBy, effectWith, effectOf}
 use Rattle.stepper.specs.Step.{Did, did, fetched, executed, carriedOut, didIf, didOf, after, stepOf}
 use Rattle.stepper.proofs.Costs.{step-cost}
-use Rattle.ticket.specs.Rules.{Every, none, more}
+use Rattle.commands.specs.Every.{Every, none, more}
 use Rattle.rules.specs.Shape.{Shape, ordinary, call, return, forbidden, nothing, shapeBy, shapeIn, shapeOf}
 use Rattle.rules.specs.Trace.{calls, returns, plain, kindBy, kindIn, kindOf}
 
@@ -51,7 +51,7 @@ Obeys forbidden r m = Unit
 Obeys nothing r m = Unit
 
 -- a branch goes one of its two ways
-either : (b : Bool) (t next : ℕ) → Some (λ a. pick b t next ≡ a) (t ∷ next ∷ [])
+either : (b : Bool) (t next : ℕ) → Some (λ a. cond b t next ≡ a) (t ∷ next ∷ [])
 either true t next = inl refl
 either false t next = inr (inl refl)
 

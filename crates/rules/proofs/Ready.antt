@@ -13,7 +13,8 @@ use Rattle.memory.specs.Memory.{Store, store, wordAt, applied, pushStores}
 use Rattle.stepper.specs.Step.{did, fetched, didOf}
 use Rattle.commands.specs.declared.command.Claim.{Claim}
 use Rattle.ticket.specs.Fields.{Fields}
-use Rattle.ticket.specs.Rules.{Every, none, more, In, HeaderRules, MarkRules}
+use Rattle.commands.specs.Every.{Every, none, more}
+use Rattle.ticket.specs.Rules.{In, HeaderRules, MarkRules}
 use Rattle.rules.specs.Shape.{Shape, ordinary, call, return, forbidden, nothing, shapeOf}
 use Rattle.rules.specs.Marks.{claimAt, imageFrom}
 use Rattle.rules.specs.Rules.{Follows, OrdinaryRules, CallRules, ReturnRules, RulesBy, RulesAt, Accepted}

@@ -12,7 +12,8 @@ use Rattle.memory.specs.Memory.{Store, byteAt}
 use Rattle.stepper.specs.Answer.{home, spent}
 use Rattle.stepper.specs.Run.{AfterRun, runOf}
 use Rattle.ticket.specs.Fields.{Fields}
-use Rattle.ticket.specs.Rules.{Every, In}
+use Rattle.commands.specs.Every.{Every}
+use Rattle.ticket.specs.Rules.{In}
 use Rattle.rules.specs.Trace.{Deed, total, Along, inUseAfter}
 
 -- T, the stack window's last address

@@ -21,8 +21,8 @@ use Rattle.ticket.specs.declared.fields.Name.the-variants.{Absent, Text}
 use Rattle.ticket.specs.declared.fields.Mark.{Mark}
 use Rattle.ticket.specs.Fields.{Fields}
 use Rattle.ticket.specs.Write.{headerCommands, nameCommands, markCommands, commandsOf, checkOf}
-use Rattle.ticket.specs.RoundTrip.{Rising}
-use Rattle.ticket.specs.Rules.{Between, Every, In, HeaderRules, ClaimRules, NameRule, absent, text, MarkRules, Readable}
+use Rattle.commands.specs.Every.{Every}
+use Rattle.ticket.specs.Rules.{Between, In, HeaderRules, ClaimRules, NameRule, absent, text, MarkRules, Rising, Readable}
 use Rattle.ticket.proofs.Says.{true-says, and-says, leb-says, ltb-says, eqb-says, positive-says, after-says, printable-says, apart-says}
 use Rattle.ticket.proofs.Free.{Free, free-admitted, admitted-free}
 

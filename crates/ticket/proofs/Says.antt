@@ -12,8 +12,9 @@ use Rattle.commands.specs.declared.command.Window.{Window}
 use Rattle.commands.specs.Rows.{printable}
 use Rattle.commands.specs.Cause.{pastOf, apart}
 use Rattle.commands.proofs.Causes.{both}
-use Rattle.ticket.specs.Rules.{Between, Every, In, Apart}
-use Rattle.ticket.specs.Rules.Every.{none, more}
+use Rattle.commands.specs.Every.{Every}
+use Rattle.ticket.specs.Rules.{Between, In, Apart}
+use Rattle.commands.specs.Every.Every.{none, more}
 
 pub true-says : _↔_ {0, 0} (true ≡ true) Unit
 true-says = (λ e. tt, λ u. refl)

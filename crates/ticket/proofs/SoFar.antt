@@ -1,7 +1,7 @@
 -- The commands that a prefix and its marks stand for, and what one command more makes of them.
 -- Assumes nothing.
 use mathlib.Core.Path.{_≡_, refl}
-use mathlib.Core.Bool.{true, false}
+use mathlib.Core.Bool.{true, false, cond}
 use Prim.Native.Nat.{ℕ, _<_}
 use native.Mathlib.Omega.{arith}
 use mathlib.Core.List.{List, [], _∷_, _++_, append-assoc, append-nil}
@@ -15,7 +15,6 @@ use Rattle.commands.specs.declared.command.Kind.the-variants.{Code, Data, Stack
 use Rattle.commands.specs.declared.command.Window.{Window}
 use Rattle.commands.specs.declared.prefix.Header.{Header}
 use Rattle.commands.specs.declared.prefix.Prefix.{Prefix}
-use Rattle.commands.specs.Bytes.{pick}
 use Rattle.commands.specs.Cause.{turnOf, inOrder, causeOf}
 use Rattle.commands.specs.Prefix.{startOf, withWindow, stagedOf, namedOf, afterOf, Sound}
 use Rattle.ticket.proofs.Snoc.{commands-snoc}
@@ -31,7 +30,7 @@ use Rattle.ticket.specs.Write.{headerCommands, markCommands}
 abbrev pub soFar : Prefix → List Mark → List Command
 soFar p ms =
     take (p .stage) (headerCommands (p .header))
-    ++ (markCommands (inFileOrder ms) ++ pick (eqb (p .stage) 5) (Command.End ∷ []) [])
+    ++ (markCommands (inFileOrder ms) ++ cond (eqb (p .stage) 5) (Command.End ∷ []) [])
 
 -- ---- what a prefix says of its marks, the latest first
 

@@ -1,7 +1,7 @@
 -- An admitted command is in order, and leaves the stage 5 only if it is the end.
 -- Assumes nothing.
 use mathlib.Core.Path.{_≡_, refl}
-use mathlib.Core.Bool.{Bool, true, false}
+use mathlib.Core.Bool.{Bool, true, false, cond}
 use lib.Dec.{eqb}
 use borrow.Author.Tests.{eqb-true}
 use Rattle.commands.specs.declared.command.Kind.the-variants.{Code, Data, Stack}
@@ -11,7 +11,6 @@ use Rattle.commands.specs.declared.command.Refusal.{Refusal}
 use Rattle.commands.specs.declared.prefix.Prefix.{Prefix}
 use Rattle.commands.specs.declared.admit.Admitted.{Admitted}
 use Rattle.commands.specs.declared.admit.Admitted.the-variants.{Refused, Next}
-use Rattle.commands.specs.Bytes.{pick}
 use Rattle.commands.specs.Prefix.{afterOf}
 use Rattle.commands.specs.Cause.{inOrder, causeOf}
 use Rattle.commands.specs.Admit.{admitOf}
@@ -19,7 +18,7 @@ use Rattle.commands.proofs.Causes.{both, allowed}
 
 -- what holds of every refusal, and of what a command in order leaves, holds of what the command's admission gives
 module _ (p : Prefix) (c : Command) (P : Admitted → Type 0) (refuses : (r : Refusal) → P (Refused r)) (goes : inOrder p c ≡ true → P (Next (afterOf p c))) where
-  by-cause : (r : Refusal) (b : Bool) → eqb (causeOf p c) 0 ≡ b → P (pick b (Next (afterOf p c)) (Refused r))
+  by-cause : (r : Refusal) (b : Bool) → eqb (causeOf p c) 0 ≡ b → P (cond b (Next (afterOf p c)) (Refused r))
   by-cause r true e = goes (allowed p c (eqb-true _ _ e) .ordered)
   by-cause r false e = refuses r
 

@@ -10,7 +10,8 @@ use Rattle.registers.specs.Word.{plus, less}
 use Rattle.registers.proofs.Wrap.{plus-zero}
 use Rattle.memory.specs.Memory.{Store, store, byteAt, withByte, applied}
 use Rattle.ticket.specs.Fields.{Fields}
-use Rattle.ticket.specs.Rules.{Every, none, more, HeaderRules}
+use Rattle.commands.specs.Every.{Every, none, more}
+use Rattle.ticket.specs.Rules.{HeaderRules}
 use Rattle.rules.specs.Claim.{topOf}
 use Rattle.rules.proofs.Memory.{every-map, byte-applied}
 use Rattle.verdict.specs.Start.{lastOf, imageStores}
