@@ -7,24 +7,20 @@ use mathlib.Core.Bool.{Bool, true, false, cond}
 use mathlib.Core.List.{List}
 use lib.Dec.{ltb}
 use lib.ListN.{length, take, getD}
-use lib.Seq.{take-suc, length-take-le, getD-take}
-use borrow.Author.Tests.{lt-ltb, ltb-true}
+use lib.Seq.{length-take-le, getD-take}
+use borrow.Author.Tests.{ltb-true}
 use Rattle.ticket.specs.declared.fields.Mark.{Mark}
 use Rattle.ticket.specs.declared.fields.Ticket.{Ticket}
-use Rattle.ticket.specs.Fields.{blankMark, listed, fieldsOf}
+use Rattle.ticket.specs.Fields.{blankMark, fieldsOf}
 use Rattle.commands.specs.Every.{Every}
 use Rattle.ticket.specs.Rules.{Readable}
 use Rattle.commands.specs.Every.Every.{none, more}
+use Rattle.ticket.proofs.Listed.{listed-take}
 use Rattle.rules.specs.Marks.{claimAt}
 use Rattle.checks.specs.Find.{indexOf}
 use Rattle.checks.specs.Cause.{markedSaid}
 use Rattle.checks.specs.Sight.{addressesOf, markedOf}
 use Rattle.checks.proofs.Found.{claim-found}
-
-listed-take : (ms : List Mark) (n : ℕ) → n ≤ 4096 → n ≤ length ms → listed ms n ≡ take n ms
-listed-take ms zero few room = refl
-listed-take ms (suc n) few room =
-    rw (lt-ltb n 4096 few, listed-take ms n (omega arith) (omega arith), take-suc ms n blankMark room)
 
 every-at : {P : Mark → Type 0} {ms : List Mark} → Every P ms → (i : ℕ) → i < length ms → P (getD ms i blankMark)
 every-at none i h = absurd (omega arith)

@@ -3,32 +3,30 @@
 use Prim.Native.Nat.{ℕ}
 use mathlib.Core.Path.{_≡_, refl}
 use mathlib.Core.Logic.{_↔_}
-use mathlib.Core.Bool.{Bool, true, false≢true}
+use mathlib.Core.Bool.{Bool, true, false≢true, and-eq-true-iff}
 use mathlib.Core.List.{List, [], _∷_}
 use mathlib.Core.Option.{Option, none, some}
 use borrow.Author.Tests.{leb-true, eqb-true}
 use Rattle.commands.specs.declared.command.Claim.{Claim}
 use Rattle.commands.specs.declared.command.Window.{Window}
 use Rattle.commands.specs.Cause.{holds}
+use Rattle.commands.proofs.Every.{first}
 use Rattle.ticket.specs.declared.fields.Mark.{Mark}
 use Rattle.ticket.specs.Fields.{Fields}
 use Rattle.commands.specs.Every.{Every}
 use Rattle.ticket.specs.Rules.{In}
-use Rattle.ticket.proofs.Says.{and-says, leb-says, ltb-says, eqb-says}
+use Rattle.ticket.proofs.Says.{leb-says, ltb-says, eqb-says}
 use Rattle.rules.specs.Shape.{Shape, ordinary, call, return, forbidden, nothing}
 use Rattle.rules.specs.Marks.{claimAt}
 use Rattle.rules.specs.Rules.{Follows, CallRules, RulesBy, RulesAt}
 use Rattle.rules.specs.Checks.{all, isMarked, nextMarked, depthsAgree, costsCover, needsCover, checksBy, checksAt, checksOfMarks}
 use Rattle.rules.proofs.Passes.{Passes, append-says}
 
-pub ruleset tests = (and-says, leb-says, ltb-says, eqb-says)
+pub ruleset tests = (and-eq-true-iff, leb-says, ltb-says, eqb-says)
 
 pub marked : (o : Option Claim) → isMarked o ≡ true → (c : Claim) × (o ≡ some c)
 marked none e = absurd (false≢true e)
 marked (some c) e = (c, refl)
-
-first : {A : Type 0} {P : A → Type 0} {a : A} {l : List A} → Every P (a ∷ l) → P a × Every P l
-first (Every.more r s) = (r, s)
 
 written-says : (w : Window) (l : List ℕ) → (all (holds w) l ≡ true) ↔ Every (In w) l
 written-says w [] = (λ e. Every.none, λ r. refl)

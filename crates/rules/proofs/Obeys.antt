@@ -34,6 +34,11 @@ abbrev pub Some : (ℕ → Type 0) → List ℕ → Type 0
 Some P [] = ⊥
 Some P (a ∷ l) = P a ⊎ Some P l
 
+pub every-some : {P Q : ℕ → Type 0} (l : List ℕ) → Every P l → Some Q l → (a : ℕ) × P a × Q a
+every-some [] none s = absurd s
+every-some (a ∷ l) (more p ps) (inl q) = (a, p, q)
+every-some (a ∷ l) (more p ps) (inr s) = every-some l ps s
+
 -- a store of an ordinary instruction: on the stack from SP down, above the SP that it leaves, or to one of the addresses written
 abbrev pub Stored : Registers → (pushed pulled : ℕ) → List ℕ → Store → Type 0
 Stored r pushed pulled written w = ((i : ℕ) × (i + pulled < pushed) × (w .at ≡ less (r .sp) i)) ⊎ Some (λ a. w .at ≡ a) written

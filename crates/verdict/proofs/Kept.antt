@@ -9,12 +9,13 @@ use lib.Dec.{eqb}
 use lib.ListN.{length}
 use Rattle.memory.specs.Memory.{Store, byteAt, applied}
 use Rattle.commands.specs.declared.prefix.Header.{Header}
+use Rattle.commands.proofs.Every.{every-map}
 use Rattle.ticket.specs.Fields.{Fields}
 use Rattle.commands.specs.Every.{none, more}
 use Rattle.ticket.specs.Rules.{In}
 use Rattle.rules.specs.Rules.{Accepted}
 use Rattle.rules.specs.Claim.{topOf}
-use Rattle.rules.proofs.Memory.{every-map, byte-applied}
+use Rattle.rules.proofs.Memory.{byte-applied}
 use Rattle.verdict.specs.Start.{imageStores, loadedOf}
 use Rattle.verdict.proofs.Stores.{Among, image-among, homeOf, last-is, under-is, code-is}
 
