@@ -2,7 +2,7 @@
 // Its lines under "Further, run" are all the verdict's.
 use crate::print::ran;
 use crate::print::stepped;
-use crate::print::text;
+use output::text;
 use registers::Data;
 use registers::Registers;
 use registers::word::up;
