@@ -348,7 +348,7 @@ static void claims(void)
 
 static void whole(void)
 {
-    struct routine *r = p();
+    struct routine *r;
 
     refused("P with its entry at $8002", p_under(1, 5, 0x8002, 26), 18, 0x8002);
     refused("P with its entry at $8001", p_under(1, 5, 0x8001, 26), 18, 0x8001);

@@ -14,17 +14,16 @@ carry k x m r = ((bit k x && bit k m) || (bit k m && not (bit k r))) || (not (bi
 abbrev pub borrow : ℕ → ℕ → ℕ → ℕ → Bool
 borrow k x m r = ((not (bit k x) && bit k m) || (bit k m && bit k r)) || (bit k r && not (bit k x))
 
--- x·m·NOT r + NOT x·NOT m·r: the overflow of a sum
+-- x·m·NOT r + NOT x·NOT m·r: the overflow of a sum, of the three bits themselves; a difference has NOT m for m
+abbrev pub overflowBits : Bool → Bool → Bool → Bool
+overflowBits x m r = ((x && m) && not r) || ((not x && not m) && r)
+
 abbrev pub overflowSum : ℕ → ℕ → ℕ → ℕ → Bool
-overflowSum k x m r = ((bit k x && bit k m) && not (bit k r)) || ((not (bit k x) && not (bit k m)) && bit k r)
+overflowSum k x m r = overflowBits (bit k x) (bit k m) (bit k r)
 
 -- x·NOT m·NOT r + NOT x·m·r: the overflow of a difference
 abbrev pub overflowDifference : ℕ → ℕ → ℕ → ℕ → Bool
 overflowDifference k x m r = ((bit k x && not (bit k m)) && not (bit k r)) || ((not (bit k x) && bit k m) && bit k r)
-
--- the overflow of a sum, of the three bits themselves; a difference has NOT m for m
-abbrev pub overflowBits : Bool → Bool → Bool → Bool
-overflowBits x m r = ((x && m) && not r) || ((not x && not m) && r)
 
 -- the condition codes with some of them changed
 abbrev pub withNzvc : Flags → Bool → Bool → Bool → Bool → Flags

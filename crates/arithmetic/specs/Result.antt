@@ -1,4 +1,4 @@
--- What the operations answer, with the condition codes as flags; and the same as the code answers it, with the flags as their byte.
+-- What the operations answer, with the condition codes as flags; and the same as the code answers it, with the flags as their byte. An inner matter of the code.
 -- Assumes nothing.
 use Prim.Native.Nat.{ℕ}
 use Rattle.registers.specs.Flags.{byteOf}

@@ -1,41 +1,35 @@
--- Document 01's twelve proved cases, as one table with one theorem: the definitions compute to what the document says.
+-- Document 01's twelve proved cases, as one table. `proofs/Table.antt` has the theorem that all of them hold.
 -- Assumes nothing.
-use mathlib.Core.Path.{_≡_, refl}
+use mathlib.Core.Path.{_≡_}
+use mathlib.Core.Bool.{cond}
 use mathlib.Core.List.{List, [], _∷_, _++_}
 use Prim.Native.Nat.{ℕ, zero, suc, _-_}
 use lib.Dec.{leb}
 use lib.ListN.{length, replicate}
 use Rattle.registers.specs.Registers.{startOf}
 use Rattle.registers.specs.declared.Registers.{Registers}
-use Rattle.opcodes.specs.Decode.{pick}
 use Rattle.stepper.specs.Answer.{Answer, done, refused, RunAnswer, home, spent}
 use Rattle.stepper.specs.Step.{stepOf}
 use Rattle.stepper.specs.Run.{runOf}
-use Rattle.stepper.specs.Computed.{stepNow, runNow}
-use Rattle.commands.specs.Admit.{admitOf}
-use Rattle.commands.specs.Bytes.{widthOf, commandOf, decodeOf}
-use Rattle.commands.specs.Cause.{rangesHold, causeOf}
-use Rattle.commands.specs.Prefix.{afterOf}
-use Rattle.ticket.specs.Read.{refusal, turnOf, readFrom, readOf}
+use Rattle.ticket.specs.Read.{refusal}
 use Rattle.rules.specs.declared.Verdict.{Verdict}
 use Rattle.rules.specs.declared.Verdict.the-variants.{Accept, Refuse}
-use Rattle.rules.specs.Shape.{shapeOf, sizeOf}
-use Rattle.rules.specs.Checks.{checksAt, judgedOf, verdictOf}
+use Rattle.rules.specs.Checks.{verdictOf}
 
 -- zeros, with some bytes from $8000 on
 unfoldable pub memoryWith : List ℕ → List ℕ
 memoryWith code = replicate 0x8000 0 ++ (code ++ replicate (0x8000 - length code) 0)
 
--- the start with the stack window's last address at $01F4
-abbrev pub start : ℕ → ℕ → ℕ → Registers
-start a b x = startOf (record { x = x; y = 0; a = a; b = b; flags = 0xd0 }) 0x8000 0x1f4
+-- the start with some flags, and the stack window's last address at $01F4
+abbrev pub start : ℕ → ℕ → ℕ → ℕ → Registers
+start f a b x = startOf (record { x = x; y = 0; a = a; b = b; flags = f }) 0x8000 0x1f4
 
 abbrev pub regs : ℕ → ℕ → ℕ → ℕ → ℕ → ℕ → Registers
 regs a b x sp pc f = record { x = x; y = 0; sp = sp; pc = pc; a = a; b = b; flags = f }
 
 -- the lowest SP before and after each of some steps, as far as they are done
 abbrev pub lowestAfter : ℕ → Answer → List ℕ → (Registers → List ℕ → ℕ) → ℕ
-lowestAfter sp (done q k) m rest = let l = rest q m in pick (leb sp l) sp l
+lowestAfter sp (done q k) m rest = let l = rest q m in cond (leb sp l) sp l
 lowestAfter sp (refused i p) m rest = sp
 
 abbrev pub lowestOf : ℕ → Registers → List ℕ → ℕ
@@ -85,10 +79,10 @@ cases =
     -- 1: P is accepted
     verdict (ticketP 5 26 23) routineP (Accept 0x8000 (record { 0 = 26 }) (record { 0 = 5 })) ∷
     -- 2: P runs home in 26 cycles, last SP $01F4; lowest SP $01EF, in its six instructions
-    run routineP (start 7 0 0) 26 (home (regs 7 0 0 0x1f4 0 0xd0) (record { 0 = 26 })) ∷
-    lowest routineP (start 7 0 0) 6 0x1ef ∷
+    run routineP (start 0xd0 7 0 0) 26 (home (regs 7 0 0 0x1f4 0 0xd0) (record { 0 = 26 })) ∷
+    lowest routineP (start 0xd0 7 0 0) 6 0x1ef ∷
     -- 3: budget 25: spent at 21, PC $8005
-    run routineP (start 7 0 0) 25 (spent (regs 7 0 0 0x1f2 0x8005 0xd0) (record { 0 = 21 })) ∷
+    run routineP (start 0xd0 7 0 0) 25 (spent (regs 7 0 0 0x1f2 0x8005 0xd0) (record { 0 = 21 })) ∷
     -- 4: limit 25: 19
     verdict (ticketP 5 25 23) routineP (Refuse (refusal 19 0x8000)) ∷
     -- 5: stack of 4: 20
@@ -97,18 +91,14 @@ cases =
     verdict (ticketP 5 26 22) routineP (Refuse (refusal 16 0x8001)) ∷
     -- 7: empty ticket: 2 at 0
     verdict [] routineP (Refuse (refusal 2 0)) ∷
-    -- 8: ABA, A $7F, B $01: A $80; H N V set, Z C clear; 2 cycles
-    step (0x1b ∷ []) (start 0x7f 0x01 0) (done (regs 0x80 0x01 0 0x1f2 0x8001 0xfa) (record { 0 = 2 })) ∷
+    -- 8: ABA, A $7F, B $01: A $80; H N V set, Z C, which were set, clear; 2 cycles
+    step (0x1b ∷ []) (start 0xd5 0x7f 0x01 0) (done (regs 0x80 0x01 0 0x1f2 0x8001 0xfa) (record { 0 = 2 })) ∷
     -- 9: ABX, X $FFFF, B 2: X $0001
-    step (0x3a ∷ []) (start 0 2 0xffff) (done (regs 0 2 1 0x1f2 0x8001 0xd0) (record { 0 = 3 })) ∷
-    -- 10: ASLA, A $80: A 0; Z V C set, N clear
-    step (0x48 ∷ []) (start 0x80 0 0) (done (regs 0 0 0 0x1f2 0x8001 0xd7) (record { 0 = 2 })) ∷
+    step (0x3a ∷ []) (start 0xd0 0 2 0xffff) (done (regs 0 2 1 0x1f2 0x8001 0xd0) (record { 0 = 3 })) ∷
+    -- 10: ASLA, A $80: A 0; Z V C set, N, which was set, clear
+    step (0x48 ∷ []) (start 0xd8 0x80 0 0) (done (regs 0 0 0 0x1f2 0x8001 0xd7) (record { 0 = 2 })) ∷
     -- 11: IDIV, D 7, X 2: X 3, D 1; 41 cycles
-    step (0x02 ∷ []) (start 0 7 2) (done (regs 0 1 3 0x1f2 0x8001 0xd0) (record { 0 = 41 })) ∷
+    step (0x02 ∷ []) (start 0xd0 0 7 2) (done (regs 0 1 3 0x1f2 0x8001 0xd0) (record { 0 = 41 })) ∷
     -- 12: BSR at $8000 with $FE: PC $8000, SP less 2
-    step (0x8d ∷ 0xfe ∷ []) (start 0 0 0) (done (regs 0 0 0 0x1f0 0x8000 0xd0) (record { 0 = 6 })) ∷
+    step (0x8d ∷ 0xfe ∷ []) (start 0xd0 0 0 0) (done (regs 0 0 0 0x1f0 0x8000 0xd0) (record { 0 = 6 })) ∷
     []
-
-pub proved : AllHold cases
-unfolding cases routineP ticketP memoryWith stepOf stepNow runOf runNow verdictOf readOf readFrom turnOf admitOf widthOf commandOf decodeOf rangesHold causeOf afterOf judgedOf checksAt shapeOf sizeOf
-proved = (refl, (refl, (refl, (refl, (refl, (refl, (refl, (refl, (refl, (refl, (refl, (refl, (refl, tt)))))))))))))

@@ -1,11 +1,11 @@
 // Bad input: memories of other lengths, every place of the four opcode maps, and instructions that wrap at $FFFF. A refusal leaves memory
 // as it was, which is looked at byte by byte.
 use crate::documented::put;
-use crate::print::decimal;
 use crate::print::ran;
 use crate::print::stepped;
-use crate::print::text;
 use check::same;
+use output::decimal;
+use output::text;
 use registers::Registers;
 use std::num::wrapping_add_u32;
 use stepper::answer::Refusal;

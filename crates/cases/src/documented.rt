@@ -1,7 +1,8 @@
-// Document 01's cases 8 to 12, and the two of routine P that a run answers. Its lines under "Further, run" are all the verdict's.
+// Document 01's cases 8 to 12, of which 8 and 10 begin with the flags set that they clear, and the two of routine P that a run answers.
+// Its lines under "Further, run" are all the verdict's.
 use crate::print::ran;
 use crate::print::stepped;
-use crate::print::text;
+use output::text;
 use registers::Data;
 use registers::Registers;
 use registers::word::up;
@@ -16,14 +17,14 @@ pub fn put(mem: &mut [u8], at: u16, v: u8) {
     }
 }
 
-// PC is $8000, SP $01F2 below the home bytes at $01F3 and $01F4, and the flags are those of a reset.
-fn start(a: u8, b: u8, x: u16) -> Registers {
+// PC is $8000, and SP $01F2 below the home bytes at $01F3 and $01F4.
+fn start(flags: u8, a: u8, b: u8, x: u16) -> Registers {
     let d = Data {
         x: x,
         y: 0,
         a: a,
         b: b,
-        flags: 0xd0,
+        flags: flags,
     };
     Registers::start(d, 0x8000, 0x01f4)
 }
@@ -53,15 +54,15 @@ fn routine_p(name: &[u8], budget: u32) {
         b"\x36\xbd\x80\x08\x32\x39\x01\x01\x97\x40\x39",
     );
     text(name);
-    ran(run(start(7, 0, 0), &mut mem, budget));
+    ran(run(start(0xd0, 7, 0, 0), &mut mem, budget));
 }
 
 pub fn cases() {
     routine_p(b"2  P, budget 26: ", 26);
     routine_p(b"3  P, budget 25: ", 25);
-    one(b"8  ABA: ", 0x1b, 0, start(0x7f, 0x01, 0));
-    one(b"9  ABX: ", 0x3a, 0, start(0, 2, 0xffff));
-    one(b"10 ASLA: ", 0x48, 0, start(0x80, 0, 0));
-    one(b"11 IDIV: ", 0x02, 0, start(0, 7, 2));
-    one(b"12 BSR: ", 0x8d, 0xfe, start(0, 0, 0));
+    one(b"8  ABA: ", 0x1b, 0, start(0xd5, 0x7f, 0x01, 0));
+    one(b"9  ABX: ", 0x3a, 0, start(0xd0, 0, 2, 0xffff));
+    one(b"10 ASLA: ", 0x48, 0, start(0xd8, 0x80, 0, 0));
+    one(b"11 IDIV: ", 0x02, 0, start(0xd0, 0, 7, 2));
+    one(b"12 BSR: ", 0x8d, 0xfe, start(0xd0, 0, 0, 0));
 }

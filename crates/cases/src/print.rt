@@ -1,41 +1,13 @@
 // Answers as text, one to a line.
-use io::print_decimal;
-use io::print_hex;
-use io::write_all;
-use libc::STDOUT_FILENO;
+use output::decimal;
+use output::registers;
+use output::text;
+use output::word;
 use registers::Cycles;
 use registers::Registers;
 use stepper::answer::Ran;
 use stepper::answer::Refusal;
 use stepper::answer::Stepped;
-
-pub fn text(s: &[u8]) {
-    write_all(STDOUT_FILENO, s);
-}
-
-pub fn decimal(n: u64) {
-    print_decimal(STDOUT_FILENO, n);
-}
-
-fn byte(name: &[u8], v: u8) {
-    text(name);
-    print_hex(STDOUT_FILENO, v as u64, 2);
-}
-
-fn word(name: &[u8], v: u16) {
-    text(name);
-    print_hex(STDOUT_FILENO, v as u64, 4);
-}
-
-fn registers(r: Registers) {
-    byte(b"A ", r.a);
-    byte(b" B ", r.b);
-    word(b" X ", r.x);
-    word(b" Y ", r.y);
-    word(b" SP ", r.sp);
-    word(b" PC ", r.pc);
-    byte(b" flags ", r.flags);
-}
 
 // The registers and the cycles.
 fn reached(r: Registers, k: Cycles) {

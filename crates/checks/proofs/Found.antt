@@ -2,17 +2,16 @@
 -- Assumes nothing.
 use Prim.Native.Nat.{ℕ, zero, suc, _<_}
 use mathlib.Core.Path.{_≡_, refl}
-use mathlib.Core.Bool.{Bool, true, false}
+use mathlib.Core.Bool.{Bool, true, false, cond}
 use mathlib.Core.List.{List, [], _∷_}
 use native.Mathlib.Omega.{arith}
 use lib.Dec.{eqb, ltb, leb·suc-suc}
 use lib.ListN.{length, getD}
 use borrow.Author.Tests.{lt-ltb}
-use Rattle.opcodes.specs.Decode.{pick}
 use Rattle.ticket.specs.declared.fields.Mark.{Mark}
 use Rattle.ticket.specs.Fields.{blankMark}
-use Rattle.ticket.specs.RoundTrip.{Rising}
-use Rattle.ticket.specs.RoundTrip.Rising.{none, one, more}
+use Rattle.ticket.specs.Rules.{Rising}
+use Rattle.ticket.specs.Rules.Rising.{none, one, more}
 use Rattle.rules.specs.Marks.{claimAt}
 use Rattle.checks.specs.Find.{indexOf, Ascending}
 use Rattle.checks.specs.Cause.{markedSaid}
@@ -20,21 +19,21 @@ use Rattle.checks.specs.Sight.{addressesOf, markedOf}
 
 -- one mark more stands before the others
 behind : (m : Mark) (ms : List Mark) (j : ℕ) (there : Bool)
-    → markedOf there (getD (m ∷ ms) (pick there (suc j) 0) blankMark) ≡ markedOf there (getD ms (pick there j 0) blankMark)
+    → markedOf there (getD (m ∷ ms) (cond there (suc j) 0) blankMark) ≡ markedOf there (getD ms (cond there j 0) blankMark)
 behind m ms j true = refl
 behind m ms j false = refl
 
 abbrev FoundAt : List Mark → ℕ → ℕ → Type 0
-FoundAt ms a j = markedSaid (markedOf (ltb j (length ms)) (getD ms (pick (ltb j (length ms)) j 0) blankMark)) ≡ claimAt ms a
+FoundAt ms a j = markedSaid (markedOf (ltb j (length ms)) (getD ms (cond (ltb j (length ms)) j 0) blankMark)) ≡ claimAt ms a
 
 -- `here`: the first mark has the address
 found-from : (m : Mark) (ms : List Mark) (a j : ℕ) → FoundAt ms a j → (here : Bool) → eqb (m .address) a ≡ here
-    → FoundAt (m ∷ ms) a (pick here 0 (suc j))
+    → FoundAt (m ∷ ms) a (cond here 0 (suc j))
 found-from m ms a j later true e = rw (e, lt-ltb 0 (suc (length ms)) (omega arith))
 found-from m ms a j later false e = rw (e, leb·suc-suc (suc j) (length ms), behind m ms j (ltb j (length ms))) later
 
 pub claim-found : (ms : List Mark) (a : ℕ)
-    → markedSaid (markedOf (ltb (indexOf (addressesOf ms) a) (length ms)) (getD ms (pick (ltb (indexOf (addressesOf ms) a) (length ms)) (indexOf (addressesOf ms) a) 0) blankMark)) ≡ claimAt ms a
+    → markedSaid (markedOf (ltb (indexOf (addressesOf ms) a) (length ms)) (getD ms (cond (ltb (indexOf (addressesOf ms) a) (length ms)) (indexOf (addressesOf ms) a) 0) blankMark)) ≡ claimAt ms a
 claim-found [] a = refl
 claim-found (m ∷ ms) a = found-from m ms a (indexOf (addressesOf ms) a) (claim-found ms a) (eqb (m .address) a) refl
 

@@ -3,28 +3,24 @@
 use mathlib.Core.Path.{_≡_, refl}
 use Prim.Native.Nat.{ℕ, zero, suc, _≤_, _<_}
 use native.Mathlib.Omega.{arith}
-use mathlib.Core.Bool.{Bool, true, false}
+use mathlib.Core.Bool.{Bool, true, false, cond}
 use mathlib.Core.List.{List}
 use lib.Dec.{ltb}
 use lib.ListN.{length, take, getD}
-use lib.Seq.{take-suc, length-take-le, getD-take}
-use borrow.Author.Tests.{lt-ltb, ltb-true}
-use Rattle.opcodes.specs.Decode.{pick}
+use lib.Seq.{length-take-le, getD-take}
+use borrow.Author.Tests.{ltb-true}
 use Rattle.ticket.specs.declared.fields.Mark.{Mark}
 use Rattle.ticket.specs.declared.fields.Ticket.{Ticket}
-use Rattle.ticket.specs.Fields.{blankMark, listed, fieldsOf}
-use Rattle.ticket.specs.Rules.{Every, Readable}
-use Rattle.ticket.specs.Rules.Every.{none, more}
+use Rattle.ticket.specs.Fields.{blankMark, fieldsOf}
+use Rattle.commands.specs.Every.{Every}
+use Rattle.ticket.specs.Rules.{Readable}
+use Rattle.commands.specs.Every.Every.{none, more}
+use Rattle.ticket.proofs.Listed.{listed-take}
 use Rattle.rules.specs.Marks.{claimAt}
 use Rattle.checks.specs.Find.{indexOf}
 use Rattle.checks.specs.Cause.{markedSaid}
 use Rattle.checks.specs.Sight.{addressesOf, markedOf}
 use Rattle.checks.proofs.Found.{claim-found}
-
-listed-take : (ms : List Mark) (n : ℕ) → n ≤ 4096 → n ≤ length ms → listed ms n ≡ take n ms
-listed-take ms zero few room = refl
-listed-take ms (suc n) few room =
-    rw (lt-ltb n 4096 few, listed-take ms n (omega arith) (omega arith), take-suc ms n blankMark room)
 
 every-at : {P : Mark → Type 0} {ms : List Mark} → Every P ms → (i : ℕ) → i < length ms → P (getD ms i blankMark)
 every-at none i h = absurd (omega arith)
@@ -33,7 +29,7 @@ every-at (more r rs) (suc i) h = every-at rs i (omega arith)
 
 -- an index is used only where it is one of a mark
 same-marked : (ms ns : List Mark) (n j : ℕ) → ((i : ℕ) → i < n → getD ms i blankMark ≡ getD ns i blankMark) → (there : Bool) → ltb j n ≡ there
-    → markedOf there (getD ms (pick there j 0) blankMark) ≡ markedOf there (getD ns (pick there j 0) blankMark)
+    → markedOf there (getD ms (cond there j 0) blankMark) ≡ markedOf there (getD ns (cond there j 0) blankMark)
 same-marked ms ns n j same true e = rw (same j (ltb-true j n e))
 same-marked ms ns n j same false e = refl
 
@@ -53,7 +49,7 @@ module _ (t : Ticket) (few : t .count ≤ 4096) (full : length (t .marks) ≡ 40
   held-above r i h = rw (← held-mark i h) (every-at (r .mark-rules) i (rw held-count h) .inside .0)
 
   -- as the code finds it: by the addresses l, the index e of the address a in them, and the index j where e is one of a mark
-  pub held-claim : (l : List ℕ) → l ≡ addressesOf (fieldsOf t .marks) → (a e j : ℕ) → e ≡ indexOf l a → j ≡ pick (ltb e (t .count)) e 0
+  pub held-claim : (l : List ℕ) → l ≡ addressesOf (fieldsOf t .marks) → (a e j : ℕ) → e ≡ indexOf l a → j ≡ cond (ltb e (t .count)) e 0
       → markedSaid (markedOf (ltb e (t .count)) (getD (t .marks) j blankMark)) ≡ claimAt (fieldsOf t .marks) a
   held-claim l same a e j at slot =
       let i = indexOf (addressesOf (fieldsOf t .marks)) a in

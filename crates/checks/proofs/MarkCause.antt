@@ -2,10 +2,9 @@
 -- Assumes nothing.
 use Prim.Native.Nat.{ℕ}
 use mathlib.Core.Path.{_≡_, refl, sym, _∙_}
-use mathlib.Core.Bool.{Bool, true, false, _&&_}
+use mathlib.Core.Bool.{Bool, true, false, cond, _&&_}
 use mathlib.Core.List.{List, _++_}
 use lib.Dec.{eqb}
-use Rattle.opcodes.specs.Decode.{pick}
 use Rattle.commands.specs.Cause.{holds}
 use Rattle.commands.specs.declared.command.Window.{Window}
 use Rattle.ticket.specs.declared.fields.Mark.{Mark}
@@ -29,15 +28,15 @@ use Rattle.checks.specs.Sight.{firstIn, secondIn, firstNext, secondNext}
 
 -- what follows a cause: the rest where it is 0, or a refusal with it
 abbrev pub causeThen : ℕ → ℕ → Verdict → Verdict
-causeThen n place v = pick (eqb n 0) v (Refuse (refusal n place))
+causeThen n place v = cond (eqb n 0) v (Refuse (refusal n place))
 
-then-pick : (b : Bool) (n k place : ℕ) (v : Verdict) → causeThen (pick b n k) place v ≡ pick b (causeThen n place v) (causeThen k place v)
-then-pick true n k place v = refl
-then-pick false n k place v = refl
+then-cond : (b : Bool) (n k place : ℕ) (v : Verdict) → causeThen (cond b n k) place v ≡ cond b (causeThen n place v) (causeThen k place v)
+then-cond true n k place v = refl
+then-cond false n k place v = refl
 
-pick-same : {A : Type 0} (b : Bool) (a : A) → pick b a a ≡ a
-pick-same true a = refl
-pick-same false a = refl
+cond-same : {A : Type 0} (b : Bool) (a : A) → cond b a a ≡ a
+cond-same true a = refl
+cond-same false a = refl
 
 and-true : (b : Bool) → b && true ≡ b
 and-true true = refl
@@ -62,12 +61,12 @@ pub mark-cause : (f : Fields) (m : Mark) (s : Shape) (inside : Bool) (a b : Mark
     → firstOf (checksBy f m (shapeSaid s) inside ++ cs) v
     ≡ causeThen (causeOf (f .header .«data») (m .claim) s inside a b) (m .address) (firstOf cs v)
 unfolding causeOf
-mark-cause f m (Ordinary next pushed pulled written cycles) inside Unmarked b p q cs v = simp (all-next, all-written, ← p, then-pick)
-mark-cause f m (Ordinary next pushed pulled written cycles) inside (At x) Unmarked p q cs v = simp (all-next, all-written, ← p, ← q, then-pick)
-mark-cause f m (Ordinary next pushed pulled written cycles) inside (At x) (At y) p q cs v = simp (all-next, all-written, ← p, ← q, then-pick)
-mark-cause f m (Call target after cycles) inside Unmarked b p q cs v = simp (← p, then-pick)
-mark-cause f m (Call target after cycles) inside (At x) Unmarked p q cs v = simp (← p, ← q, then-pick)
-mark-cause f m (Call target after cycles) inside (At x) (At y) p q cs v = simp (← p, ← q, then-pick)
-mark-cause f m (Return cycles) inside a b p q cs v = simp then-pick
-mark-cause f m Forbidden inside a b p q cs v = simp then-pick
-mark-cause f m Nothing inside a b p q cs v = simp pick-same
+mark-cause f m (Ordinary next pushed pulled written cycles) inside Unmarked b p q cs v = simp (all-next, all-written, ← p, then-cond)
+mark-cause f m (Ordinary next pushed pulled written cycles) inside (At x) Unmarked p q cs v = simp (all-next, all-written, ← p, ← q, then-cond)
+mark-cause f m (Ordinary next pushed pulled written cycles) inside (At x) (At y) p q cs v = simp (all-next, all-written, ← p, ← q, then-cond)
+mark-cause f m (Call target after cycles) inside Unmarked b p q cs v = simp (← p, then-cond)
+mark-cause f m (Call target after cycles) inside (At x) Unmarked p q cs v = simp (← p, ← q, then-cond)
+mark-cause f m (Call target after cycles) inside (At x) (At y) p q cs v = simp (← p, ← q, then-cond)
+mark-cause f m (Return cycles) inside a b p q cs v = simp then-cond
+mark-cause f m Forbidden inside a b p q cs v = simp then-cond
+mark-cause f m Nothing inside a b p q cs v = simp cond-same

@@ -1,14 +1,7 @@
--- A test `!r` of a result r says what r's contract makes of it.
+-- The conjunction of two results is that of what their contracts say.
 -- Assumes nothing.
-use mathlib.Core.Path.{_≡_, sym, _∙_}
-use mathlib.Core.Bool.{Bool, true, false, not, _&&_}
-use borrow.Author.Tests.{not-true, not-false}
+use mathlib.Core.Path.{_≡_}
+use mathlib.Core.Bool.{Bool, _&&_}
 
 pub both : {r s t u : Bool} → r ≡ s → t ≡ u → (r && t) ≡ (s && u)
 both e f = cc
-
-pub fails : {r s : Bool} → r ≡ s → not r ≡ true → s ≡ false
-fails e t = sym e ∙ not-true _ t
-
-pub passes : {r s : Bool} → r ≡ s → not r ≡ false → s ≡ true
-passes e t = sym e ∙ not-false _ t

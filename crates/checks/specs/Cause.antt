@@ -1,14 +1,14 @@
--- Causes 10 to 17 at a mark as the code computes them: of the rules' checks, the first that fails, by the claims at the successors.
+-- Causes 10 to 17 at a mark as the code computes them: of the rules' checks, the first that fails, by the claims at the successors. An inner matter of the code.
 -- Assumes nothing.
-use Prim.Native.Nat.{ℕ, _+_}
-use mathlib.Core.Bool.{Bool, true, _&&_}
+use Prim.Native.Nat.{ℕ}
+use mathlib.Core.Bool.{Bool, true, cond, _&&_}
 use mathlib.Core.Option.{Option, none, some}
 use lib.Dec.{eqb, leb}
 use Rattle.registers.specs.Word.{plus}
-use Rattle.opcodes.specs.Decode.{pick}
 use Rattle.commands.specs.Cause.{holds}
 use Rattle.commands.specs.declared.command.Claim.{Claim}
 use Rattle.commands.specs.declared.command.Window.{Window}
+use Rattle.rules.specs.Checks.{depthAgrees, costCovers, needCovers, hasDepth, costCoversCall, needCoversTarget, needCoversAfter}
 use Rattle.shapes.specs.declared.shape.Written.{Written}
 use Rattle.shapes.specs.declared.shape.Written.the-variants.{Nowhere, Byte, Word}
 use Rattle.shapes.specs.declared.shape.Shape.{Shape}
@@ -26,19 +26,10 @@ inData w Nowhere = true
 inData w (Byte a) = holds w a
 inData w (Word a) = holds w a && holds w (plus a 1)
 
-abbrev pub depthAgrees : Claim → ℕ → ℕ → Claim → Bool
-depthAgrees k pushed pulled x = eqb (x .depth .0 + pulled) (k .depth .0 + pushed)
-
-abbrev pub costCovers : Claim → ℕ → Claim → Bool
-costCovers k cycles x = leb (cycles + x .cost .0) (k .cost .0)
-
-abbrev pub needCovers : Claim → ℕ → ℕ → Claim → Bool
-needCovers k pushed pulled x = leb (pushed + x .need .0) (k .need .0 + pulled)
-
 abbrev pub followsOf : Claim → ℕ → ℕ → ℕ → Claim → Claim → ℕ
 followsOf k pushed pulled cycles x y =
-    pick (depthAgrees k pushed pulled x && depthAgrees k pushed pulled y)
-    (pick (costCovers k cycles x && costCovers k cycles y) (pick (needCovers k pushed pulled x && needCovers k pushed pulled y) 0 17) 16)
+    cond (depthAgrees k pushed pulled x && depthAgrees k pushed pulled y)
+    (cond (costCovers k cycles x && costCovers k cycles y) (cond (needCovers k pushed pulled x && needCovers k pushed pulled y) 0 17) 16)
     15
 
 -- 14 unless there are claims at both addresses
@@ -49,19 +40,19 @@ bothMarked (At x) (At y) f = f x y
 
 abbrev pub ordinaryOf : Window → Claim → ℕ → ℕ → Written → ℕ → Marked → Marked → ℕ
 ordinaryOf w k pushed pulled written cycles a b =
-    pick (inData w written) (pick (leb pulled (k .depth .0)) (bothMarked a b (followsOf k pushed pulled cycles)) 13) 12
+    cond (inData w written) (cond (leb pulled (k .depth .0)) (bothMarked a b (followsOf k pushed pulled cycles)) 13) 12
 
 abbrev pub calledOf : Claim → ℕ → Claim → Claim → ℕ
 calledOf k cycles x y =
-    pick (eqb (x .depth .0) 0 && eqb (y .depth .0) (k .depth .0))
-    (pick (leb (cycles + x .cost .0 + y .cost .0) (k .cost .0)) (pick (leb (2 + x .need .0) (k .need .0) && leb (y .need .0) (k .need .0)) 0 17) 16)
+    cond (hasDepth 0 x && hasDepth (k .depth .0) y)
+    (cond (costCoversCall k cycles x y) (cond (needCoversTarget k x && needCoversAfter k y) 0 17) 16)
     15
 
 abbrev pub callOf : Claim → ℕ → Marked → Marked → ℕ
 callOf k cycles a b = bothMarked a b (calledOf k cycles)
 
 abbrev pub returnOf : Claim → ℕ → ℕ
-returnOf k cycles = pick (eqb (k .depth .0) 0) (pick (leb cycles (k .cost .0)) 0 16) 13
+returnOf k cycles = cond (eqb (k .depth .0) 0) (cond (leb cycles (k .cost .0)) 0 16) 13
 
 -- with the instruction inside the code window
 abbrev pub insideOf : Window → Claim → Shape → Marked → Marked → ℕ
@@ -72,4 +63,4 @@ insideOf w k Forbidden a b = 11
 insideOf w k Nothing a b = 10
 
 unfoldable pub causeOf : Window → Claim → Shape → Bool → Marked → Marked → ℕ
-causeOf w k s inside a b = pick inside (insideOf w k s a b) 10
+causeOf w k s inside a b = cond inside (insideOf w k s a b) 10

@@ -1,15 +1,15 @@
--- Where an address stands in a list.
+-- Where an address stands in a list. An inner matter of the code.
 -- Assumes nothing.
 use Prim.Native.Nat.{ℕ, zero, suc, _<_}
+use mathlib.Core.Bool.{cond}
 use mathlib.Core.List.{List, [], _∷_}
 use lib.Dec.{eqb}
 use lib.ListN.{length, getD}
-use Rattle.opcodes.specs.Decode.{pick}
 
 -- the index of its first occurrence, or the list's length where there is none
 abbrev pub indexOf : List ℕ → ℕ → ℕ
 indexOf [] a = zero
-indexOf (x ∷ xs) a = pick (eqb x a) zero (suc (indexOf xs a))
+indexOf (x ∷ xs) a = cond (eqb x a) zero (suc (indexOf xs a))
 
 -- what `find` requires
 abbrev pub Ascending : List ℕ → Type 0

@@ -1,8 +1,8 @@
--- Causes 18 to 20 and acceptance as the code computes them, by the claim at the entry.
+-- Causes 18 to 20 and acceptance as the code computes them, by the claim at the entry. An inner matter of the code.
 -- Assumes nothing.
 use Prim.Native.Nat.{_+_}
+use mathlib.Core.Bool.{cond}
 use lib.Dec.{eqb, leb}
-use Rattle.opcodes.specs.Decode.{pick}
 use Rattle.commands.specs.declared.command.Claim.{Claim}
 use Rattle.commands.specs.declared.prefix.Header.{Header}
 use Rattle.ticket.specs.Read.{refusal}
@@ -13,9 +13,9 @@ use Rattle.checks.specs.declared.cause.Marked.the-variants.{Unmarked, At
 
 abbrev pub enteredOf : Header → Claim → Verdict
 enteredOf h c =
-    pick (eqb (c .depth .0) 0)
-    (pick (leb (c .cost .0) (h .limit .0))
-    (pick (leb (c .need .0 + 2) (h .stack .length)) (Accept (h .entry) (c .cost) (record { 0 = c .need .0 + 2 })) (Refuse (refusal 20 (h .entry))))
+    cond (eqb (c .depth .0) 0)
+    (cond (leb (c .cost .0) (h .limit .0))
+    (cond (leb (c .need .0 + 2) (h .stack .length)) (Accept (h .entry) (c .cost) (record { 0 = c .need .0 + 2 })) (Refuse (refusal 20 (h .entry))))
     (Refuse (refusal 19 (h .entry))))
     (Refuse (refusal 18 (h .entry)))
 

@@ -1,9 +1,10 @@
 // Document 01's causes 10 to 17 at a mark, on values: the mark's claim, the shape of its instruction and the claims at its successors.
 ghost use mathlib.Core.Path.{_≡_};
-ghost use Rattle.commands.specs.Cause.{pastOf, holds};
-ghost use Rattle.checks.specs.Cause.{inData, depthAgrees, costCovers, needCovers, followsOf, ordinaryOf, calledOf, callOf, returnOf, causeOf};
+ghost use Rattle.rules.specs.Checks.{depthAgrees, costCovers, needCovers};
+ghost use Rattle.checks.specs.Cause.{inData, followsOf, ordinaryOf, calledOf, callOf, returnOf, causeOf};
 use commands::command::Claim;
 use commands::command::Window;
+use commands::command::holds;
 use registers::Cycles;
 use registers::StackBytes;
 use registers::word::up;
@@ -14,19 +15,6 @@ use shapes::shape::Written;
 pub enum Marked {
     Unmarked,
     At(Claim),
-}
-
-// The first address past a window. It can be 65,536.
-pub fn past(w: Window) -> u32
-    ensures { λ r. ⌜ r ≡ pastOf w ⌝ }
-{
-    (w.start as u32) + (w.length as u32)
-}
-
-fn holds(w: Window, a: u16) -> bool
-    ensures { λ r. ⌜ r ≡ holds w a ⌝ }
-{
-    (w.start <= a) & ((a as u32) < past(w))
 }
 
 // Every byte that is written lies in the window.

@@ -1,12 +1,12 @@
 // The checks of a ticket that was read: of the image, of each mark in rising address, of the whole.
 ghost use mathlib.Core.Path.{_≡_};
+ghost use mathlib.Core.Bool.{cond};
 ghost use Prim.Native.Nat.{_≤_};
 ghost use lib.Dec.{ltb};
 ghost use lib.ListN.{take};
 ghost use Rattle.ticket.specs.Fields.{fieldsOf};
 ghost use Rattle.ticket.specs.Rules.{Readable};
 ghost use Rattle.rules.specs.Checks.{judgedOf};
-ghost use Rattle.opcodes.specs.Decode.{pick};
 ghost use Rattle.checks.specs.Cause.{causeOf};
 ghost use Rattle.checks.specs.Sight.{addressesOf, markedOf};
 use crate::cause::Marked;
@@ -43,7 +43,7 @@ fn addresses_of(t: Ticket) -> [u16; 4096]
 
 // An index below the number of marks, or 0.
 fn slot(i: usize, count: usize) -> usize
-    ensures { λ r. ⌜ r ≡ pick (ltb i count) i 0 ⌝ }
+    ensures { λ r. ⌜ r ≡ cond (ltb i count) i 0 ⌝ }
 {
     if i < count { i } else { 0 }
 }

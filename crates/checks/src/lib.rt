@@ -1,6 +1,6 @@
 // An inner crate: the checks of a ticket that was read, and of its image.
-pub mod find; // an address in a rising list
-pub mod cause; // causes 10 to 17, at a mark
-pub mod whole; // causes 18 to 20, and acceptance
+mod find; // an address in a rising list
+mod cause; // causes 10 to 17, at a mark
+mod whole; // causes 18 to 20, and acceptance
 mod sight; // the instruction at a mark, and the marks of its successors
 pub mod judge; // cause 9, each mark in rising address, then the whole

@@ -3,18 +3,13 @@
 use Prim.Native.Nat.{ℕ, suc}
 use native.Mathlib.Omega.{arith}
 use mathlib.Core.Path.{_≡_, refl}
-use mathlib.Core.Bool.{Bool, true, false, _&&_}
-use Rattle.commands.specs.Bytes.{pick}
+use mathlib.Core.Bool.{Bool, true, false, cond}
 use Rattle.commands.specs.Cause.{inOrder, rangesHold, edgesHold, separate, inside, causeOf}
 use Rattle.commands.specs.declared.command.Command.{Command}
 use Rattle.commands.specs.declared.prefix.Prefix.{Prefix}
 
-pub both : (a b : Bool) → (a && b) ≡ true → (a ≡ true) × (b ≡ true)
-both true b e = (refl, e)
-both false b e = (e, cc)
-
 -- a test that does not stop at its cause
-passed : (b : Bool) (v n : ℕ) → pick b v (suc n) ≡ 0 → (b ≡ true) × (v ≡ 0)
+passed : (b : Bool) (v n : ℕ) → cond b v (suc n) ≡ 0 → (b ≡ true) × (v ≡ 0)
 passed true v n e = (refl, e)
 passed false v n e = absurd (omega arith)
 

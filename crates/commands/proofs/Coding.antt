@@ -1,7 +1,7 @@
 -- A command's bytes say the command, and the bytes that a command is read from are its own.
 -- Assumes nothing.
 use mathlib.Core.Path.{_≡_, refl}
-use mathlib.Core.Bool.{Bool, true, false}
+use mathlib.Core.Bool.{Bool, true, false, cond}
 use Prim.Native.Nat.{ℕ, zero, suc, _+_, _^_, _≤_, _<_}
 use native.Mathlib.Omega.{arith}
 use native.Mathlib.Numerals.{one-add}
@@ -12,7 +12,7 @@ use lib.Seq.{take-at, drop-at, take-add, length-take-le}
 use borrow.Author.Tests.{ltb-true, leb-true, le-leb}
 use Rattle.commands.specs.Number.{number, digits, AllBytes}
 use Rattle.commands.specs.Rows.{Operand, widthIn, rowOf, known}
-use Rattle.commands.specs.Bytes.{pick, byteOf, operandsOf, joined, encodeOf, sizeOf, widthOf, operandsIn, commandsWith, commandOf, decodeOf}
+use Rattle.commands.specs.Bytes.{byteOf, operandsOf, joined, encodeOf, sizeOf, widthOf, operandsIn, commandsWith, commandOf, decodeOf}
 use Rattle.commands.specs.Fits.{FitsRow, Fits}
 use Rattle.commands.specs.Fits.FitsRow.{none, more}
 use Rattle.commands.specs.Prefix.{afterOf}
@@ -123,7 +123,7 @@ decode-encode c s f =
     rw (byte-known c, le-leb _ _ room, operands-joined f s, commands-with c)
 
 module _ (b : ℕ) (s : List ℕ) (c : Command) where
-  picked : (k r : Bool) → pick k (pick r (Decoded.Found (commandOf b s)) Decoded.Cut) Decoded.Unknown ≡ Decoded.Found c → (k ≡ true) × (r ≡ true) × (commandOf b s ≡ c)
+  picked : (k r : Bool) → cond k (cond r (Decoded.Found (commandOf b s)) Decoded.Cut) Decoded.Unknown ≡ Decoded.Found c → (k ≡ true) × (r ≡ true) × (commandOf b s ≡ c)
   picked true true e = (refl, refl, cc)
   picked true false e = (refl, cc, cc)
   picked false true e = (cc, refl, cc)

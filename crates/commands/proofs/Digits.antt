@@ -7,7 +7,7 @@ use native.Mathlib.Omega.{arith}
 use mathlib.Core.List.{List, [], _∷_, _++_, append-assoc, append-nil}
 use lib.ListN.{length, getD, take, drop, length-append}
 use Rattle.commands.specs.Number.{numberFrom, number, digits, AllBytes}
-use Rattle.commands.specs.Number.AllBytes.{none, more}
+use Rattle.commands.specs.Every.{none, more}
 use Rattle.commands.proofs.Pieces.{append}
 
 pub length-digits : (w v : ℕ) → length (digits w v) ≡ w
@@ -25,7 +25,7 @@ next k s = omega arith
 
 below : {s : List ℕ} → AllBytes s → (k v : ℕ) → v < 256 ^ k → numberFrom v s < 256 ^ (k + length s)
 below none k v h = rw add-zero h
-below (more {b} {s} l a) k v h = rw (next k s) (below a (suc k) (v * 256 + b) (omega arith))
+below (more {a = b} {l = s} l a) k v h = rw (next k s) (below a (suc k) (v * 256 + b) (omega arith))
 
 pub number-below : (s : List ℕ) → AllBytes s → number s < 256 ^ length s
 number-below s a = rw zero-add at (below a 0 0 (omega arith))
@@ -38,7 +38,7 @@ digits-step k v b l =
 
 digits-from : {s : List ℕ} → AllBytes s → (k v : ℕ) → digits (k + length s) (numberFrom v s) ≡ digits k v ++ s
 digits-from none k v = simp (add-zero, append-nil)
-digits-from (more {b} {s} l a) k v =
+digits-from (more {a = b} {l = s} l a) k v =
     rw (next k s, digits-from a (suc k) (v * 256 + b), digits-step k v b l, append-assoc)
 
 pub digits-number : (s : List ℕ) → AllBytes s → digits (length s) (number s) ≡ s

@@ -1,3 +1,5 @@
+pub mod Every
+pub mod Tests
 pub mod Pieces
 pub mod Digits
 pub mod Coding

@@ -5,12 +5,12 @@ use native.Mathlib.Nat.{eq-zero-or-pos}
 use native.Mathlib.Omega.{arith}
 use mathlib.Core.Logic.{⊎-elim}
 use mathlib.Core.Path.{_≡_, refl, ap}
-use mathlib.Core.Bool.{Bool, true, false, _||_}
+use mathlib.Core.Bool.{Bool, true, false, cond, _||_, and-eq-true-iff}
 use lib.Dec.{eqb, ltb, leb}
 use borrow.Author.Tests.{ltb-true, leb-true, eqb-true, ne-eqb}
 use Rattle.commands.specs.Rows.{between}
-use Rattle.commands.specs.Bytes.{pick}
-use Rattle.commands.specs.Prefix.{startOf, bit, withWindow, stagedOf, markedOf, namedOf, afterOf, Sound}
+use Rattle.registers.specs.Flags.{one}
+use Rattle.commands.specs.Prefix.{startOf, withWindow, stagedOf, markedOf, namedOf, afterOf, Sound}
 use Rattle.commands.specs.Cause.{rangesHold, causeOf}
 use Rattle.commands.specs.Admit.{admitOf, thenOf, SoundSoFar, stopped, sound}
 use Rattle.commands.specs.declared.command.Window.{Window}
@@ -23,7 +23,7 @@ use Rattle.commands.specs.declared.prefix.Header.{Header}
 use Rattle.commands.specs.declared.prefix.Prefix.{Prefix}
 use Rattle.commands.specs.declared.admit.Admitted.{Admitted}
 use Rattle.commands.specs.declared.admit.Admitted.the-variants.{Refused, Next}
-use Rattle.commands.proofs.Causes.{both, Allowed, allowed}
+use Rattle.commands.proofs.Causes.{Allowed, allowed}
 
 impossible : false ≡ true → _≡_ {A = ℕ} 0 1
 impossible e = cc
@@ -47,7 +47,7 @@ bounds {p} s =
 short : (w : Window) → rangesHold (Command.Window Code w) ≡ true → w .length ≤ 4096
 unfolding rangesHold
 short w e =
-    leb-true (w .length) 4096 (both (leb 1 (w .length)) _ (both (between 1 4096 (w .length)) true e .0) .1)
+    leb-true (w .length) 4096 (and-eq-true-iff (leb 1 (w .length)) _ .0 (and-eq-true-iff (between 1 4096 (w .length)) true .0 e .0) .1)
 
 module _ (p : Prefix) (s : Sound p) where
   to-window : (h : Header) → p .stage < 3 → h .code .length ≤ 4096 → Sound (stagedOf p 5 h)
@@ -67,7 +67,7 @@ module _ (p : Prefix) (s : Sound p) where
   to-name : p .stage ≡ 4 → p .nameable ≡ true → Sound (namedOf p)
   to-name body nameable =
       let l = s .late (omega arith) in
-      let b = ap bit nameable in
+      let b = ap one nameable in
       record {
         stages = s .stages;
         early = omega arith;
@@ -104,19 +104,19 @@ module _ (p : Prefix) (s : Sound p) where
   after (Command.Window k w) a = after-window k w a
   after (Command.Entry e l) a = to-entry _ (eqb-true _ _ (a .ordered)) (s .small)
   after (Command.Mark m k) a =
-      let o = both _ _ (a .ordered) in
-      let i = both _ _ (a .placed) in
+      let o = and-eq-true-iff _ _ .0 (a .ordered) in
+      let i = and-eq-true-iff _ _ .0 (a .placed) in
       to-mark m (eqb-true _ _ (o .0)) (leb-true _ _ (i .0)) (ltb-true _ _ (i .1)) (rises m (o .1))
   after (Command.Name m t) a =
-      let o = both _ _ (a .ordered) in
-      to-name (eqb-true _ _ (o .0)) (both _ _ (o .1) .0)
+      let o = and-eq-true-iff _ _ .0 (a .ordered) in
+      to-name (eqb-true _ _ (o .0)) (and-eq-true-iff _ _ .0 (o .1) .0)
   after Command.End a = to-end (eqb-true _ _ (a .ordered))
 
 pub sound-after : (p : Prefix) (c : Command) → Sound p → causeOf p c ≡ 0 → Sound (afterOf p c)
 sound-after p c s e = after p s c (allowed p c e)
 
 module _ (p : Prefix) (c : Command) (s : Sound p) where
-  picked : (r : Refusal) (b : Bool) → eqb (causeOf p c) 0 ≡ b → SoundSoFar (pick b (Next (afterOf p c)) (Refused r))
+  picked : (r : Refusal) (b : Bool) → eqb (causeOf p c) 0 ≡ b → SoundSoFar (cond b (Next (afterOf p c)) (Refused r))
   picked r true e = sound (sound-after p c s (eqb-true _ _ e))
   picked r false e = stopped
 

@@ -1,7 +1,7 @@
 -- A command as bytes: its byte, then its operands by their widths (document 01, "The ticket"); and the command that some bytes begin with.
 -- Assumes nothing.
 use Prim.Native.Nat.{ℕ, _+_, _-_}
-use mathlib.Core.Bool.{Bool, true, false}
+use mathlib.Core.Bool.{cond}
 use mathlib.Core.List.{List, [], _∷_, _++_}
 use lib.Dec.{leb}
 use lib.ListN.{getD, length, take, drop, replicate}
@@ -15,10 +15,6 @@ use Rattle.commands.specs.declared.command.Command.{Command}
 use Rattle.commands.specs.declared.command.Command.the-variants as Command
 use Rattle.commands.specs.declared.command.Decoded.{Decoded}
 use Rattle.commands.specs.declared.command.Decoded.the-variants as Decoded
-
-abbrev pub pick {ℓ} : {A : Type ℓ} → Bool → A → A → A
-pick true a b = a
-pick false a b = b
 
 abbrev pub byteOfKind : Kind → ℕ
 byteOfKind Code = 0x01
@@ -87,7 +83,7 @@ commandOf b s = getD (commandsWith (operandsIn (rowOf b) s)) b Command.End
 unfoldable pub decodeOf : List ℕ → Decoded
 decodeOf [] = Decoded.Cut
 decodeOf (b ∷ s) =
-    pick (known b) (pick (leb (sizeOf (rowOf b)) (length s)) (Decoded.Found (commandOf b s)) Decoded.Cut) Decoded.Unknown
+    cond (known b) (cond (leb (sizeOf (rowOf b)) (length s)) (Decoded.Found (commandOf b s)) Decoded.Cut) Decoded.Unknown
 
 -- no command has more than 11 bytes
 abbrev pub padded : List ℕ → List ℕ

@@ -1,11 +1,11 @@
 -- Why a command is refused after those before it: document 01's causes 3 to 7, in its table's order ("The ticket", "Where a ticket stops").
 -- Assumes nothing.
 use Prim.Native.Nat.{ℕ, _+_}
-use mathlib.Core.Bool.{Bool, true, not, _&&_, _||_}
+use mathlib.Core.Bool.{Bool, true, cond, not, _&&_, _||_}
 use mathlib.Core.List.{List, [], _∷_}
 use lib.Dec.{eqb, ltb, leb}
 use Rattle.commands.specs.Rows.{Operand, inRange, rowOf}
-use Rattle.commands.specs.Bytes.{pick, byteOf, operandsOf}
+use Rattle.commands.specs.Bytes.{byteOf, operandsOf}
 use Rattle.commands.specs.declared.command.Window.{Window}
 use Rattle.commands.specs.declared.command.Kind.{Kind}
 use Rattle.commands.specs.declared.command.Kind.the-variants.{Code, Data, Stack}
@@ -38,7 +38,7 @@ allInRange (o ∷ os) (v ∷ vs) = inRange o v && allInRange os vs
 unfoldable pub rangesHold : Command → Bool
 rangesHold c = allInRange (rowOf (byteOf c)) (operandsOf c)
 
--- the first address past a window, at most 65,536
+-- the first address past a window; more than 65,536 where it runs past $FFFF
 abbrev pub pastOf : Window → ℕ
 pastOf w = w .start + w .length
 
@@ -83,6 +83,6 @@ inside h Command.End = true
 -- the first cause that applies, or 0
 unfoldable pub causeOf : Prefix → Command → ℕ
 causeOf p c =
-    pick (inOrder p c)
-    (pick (rangesHold c) (pick (edgesHold c) (pick (separate (p .header) c) (pick (inside (p .header) c) 0 7) 6) 5) 4)
+    cond (inOrder p c)
+    (cond (rangesHold c) (cond (edgesHold c) (cond (separate (p .header) c) (cond (inside (p .header) c) 0 7) 6) 5) 4)
     3

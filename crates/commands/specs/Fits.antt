@@ -1,4 +1,4 @@
--- A command whose operands fit their widths, as those of every value of the code's types do.
+-- A command whose operands fit their widths, as those of every value of the code's types do (document 01, "The ticket": how many bytes an operand has).
 -- Assumes nothing.
 use Prim.Native.Nat.{ℕ, _^_, _<_}
 use mathlib.Core.List.{List, [], _∷_}

@@ -1,3 +1,4 @@
+pub mod Every
 pub mod Number
 pub mod Rows
 pub mod Bytes

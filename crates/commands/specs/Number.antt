@@ -2,6 +2,7 @@
 -- Assumes nothing.
 use Prim.Native.Nat.{ℕ, zero, suc, _+_, _*_, _/_, _%_, _<_}
 use mathlib.Core.List.{List, [], _∷_, _++_}
+use Rattle.commands.specs.Every.{Every}
 
 -- the number that some bytes stand for, with those already read before them
 abbrev pub numberFrom : ℕ → List ℕ → ℕ
@@ -17,6 +18,5 @@ digits zero v = []
 digits (suc w) v = digits w (v / 256) ++ (v % 256 ∷ [])
 
 -- a list of bytes
-pub data AllBytes : List ℕ → Type 0 where
-  none : AllBytes []
-  more : {b : ℕ} {s : List ℕ} → b < 256 → AllBytes s → AllBytes (b ∷ s)
+abbrev pub AllBytes : List ℕ → Type 0
+AllBytes s = Every (λ b. b < 256) s

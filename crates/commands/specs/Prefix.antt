@@ -1,8 +1,9 @@
--- What the commands so far leave for the next.
+-- What the commands so far leave for the next (document 01, "The ticket": the order of the commands).
 -- Assumes nothing.
 use Prim.Native.Nat.{ℕ, _+_, _*_, _≤_, _<_}
 use mathlib.Core.Path.{_≡_}
-use mathlib.Core.Bool.{Bool, true, false}
+use mathlib.Core.Bool.{true, false}
+use Rattle.registers.specs.Flags.{one}
 use Rattle.registers.specs.declared.Cycles.{Cycles}
 use Rattle.commands.specs.declared.command.Window.{Window}
 use Rattle.commands.specs.declared.command.Kind.{Kind}
@@ -52,16 +53,12 @@ afterOf p (Command.Mark a c) = markedOf p a
 afterOf p (Command.Name a t) = namedOf p
 afterOf p Command.End = stagedOf p 1 (p .header)
 
-abbrev pub bit : Bool → ℕ
-bit true = 1
-bit false = 0
-
 -- What holds of every prefix of a ticket. Marks rise and lie in the code window, so there are no more of them than it has bytes, which is at most
 -- 4,096; and a mark takes at most 22 bytes, with its name.
 pub record Sound (p : Prefix) : Type 0 where
   pub stages : p .stage ≤ 5
   pub early : p .stage < 4 → (p .at ≤ 5 * p .stage) × (p .count ≡ 0)
-  pub late : 4 ≤ p .stage → p .at + 11 * bit (p .nameable) ≤ 18 + p .stage + 22 * p .count
+  pub late : 4 ≤ p .stage → p .at + 11 * one (p .nameable) ≤ 18 + p .stage + 22 * p .count
   pub small : p .header .code .length ≤ 4096
   pub rising : 1 ≤ p .count → (p .header .code .start + p .count ≤ p .last + 1) × (p .last < p .header .code .start + p .header .code .length)
   pub named : p .nameable ≡ true → 1 ≤ p .count

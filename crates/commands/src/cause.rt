@@ -2,11 +2,13 @@
 ghost use mathlib.Core.Path.{_≡_};
 ghost use Rattle.commands.specs.Rows.{between, printable};
 ghost use Rattle.commands.specs.Number.{digits};
-ghost use Rattle.commands.specs.Cause.{turnOf, inOrder, rangesHold, pastOf, startHolds, edgesHold, apart, separate, inside, causeOf};
+ghost use Rattle.commands.specs.Cause.{turnOf, inOrder, rangesHold, startHolds, edgesHold, apart, separate, inside, causeOf};
 use crate::command::Claim;
 use crate::command::Command;
 use crate::command::Kind;
 use crate::command::Window;
+use crate::command::holds;
+use crate::command::past;
 use crate::prefix::Header;
 use crate::prefix::Prefix;
 
@@ -89,13 +91,6 @@ fn ranges_hold(c: Command) -> bool
     }
 }
 
-// The first address past a window. It can be 65,536.
-fn past(w: Window) -> u32
-    ensures { λ r. ⌜ r ≡ pastOf w ⌝ }
-{
-    (w.start as u32) + (w.length as u32)
-}
-
 fn start_holds(k: Kind, start: u16) -> bool
     ensures { λ r. ⌜ r ≡ startHolds k start ⌝ }
 {
@@ -148,7 +143,7 @@ fn inside(h: Header, c: Command) -> bool
     match c {
         Command::Window(_, _) => true,
         Command::Entry(_, _) => true,
-        Command::Mark(a, _) => (code.start <= a) & ((a as u32) < past(code)),
+        Command::Mark(a, _) => holds(code, a),
         Command::Name(_, _) => true,
         Command::End => true,
     }

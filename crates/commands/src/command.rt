@@ -1,5 +1,6 @@
 // The commands of a ticket (document 01, "The ticket").
 ghost use mathlib.Core.Path.{_≡_};
+ghost use Rattle.commands.specs.Cause.{pastOf, holds};
 use registers::Cycles;
 use registers::StackBytes;
 
@@ -7,6 +8,20 @@ use registers::StackBytes;
 pub struct Window {
     pub start: u16,
     pub length: u16,
+}
+
+// The first address past a window. It is more than 65,536 where the window runs past $FFFF.
+pub fn past(w: Window) -> u32
+    ensures { λ r. ⌜ r ≡ pastOf w ⌝ }
+{
+    (w.start as u32) + (w.length as u32)
+}
+
+// An address lies in a window.
+pub fn holds(w: Window, a: u16) -> bool
+    ensures { λ r. ⌜ r ≡ holds w a ⌝ }
+{
+    (w.start <= a) & ((a as u32) < past(w))
 }
 
 pub enum Kind {

@@ -1,14 +1,14 @@
 -- The effect of an instruction, as data: the registers afterwards and the stores in order. PC, SP and the addresses stored to come from
--- the form, the rest from what is computed over values.
+-- the form, the rest from what is computed over values (the manual's "Operation" of each entry; document 01, "The machine").
 -- Assumes nothing.
 use Prim.Native.Nat.{ℕ}
 use mathlib.Core.Path.{_≡_}
+use mathlib.Core.Bool.{cond}
 use mathlib.Core.List.{List, [], _∷_}
 use Rattle.registers.specs.Word.{plus, less}
 use Rattle.registers.specs.Registers.{withData, withPc, withSp, withPcSp}
 use Rattle.registers.specs.declared.Registers.{Registers}
 use Rattle.memory.specs.Memory.{wordAt, Store, store, wordStores, pushStores, applied}
-use Rattle.opcodes.specs.Decode.{pick}
 use Rattle.opcodes.specs.Form.{formOf}
 use Rattle.opcodes.specs.declared.instruction.Action.{Action}
 use Rattle.opcodes.specs.declared.instruction.Operand.{Operand}
@@ -36,7 +36,7 @@ effectBy PullsByte r q w m = effect (withSp q (plus (r .sp) 1)) []
 effectBy PullsWord r q w m = effect (withSp q (plus (r .sp) 2)) []
 effectBy Reserves r q w m = effect (withSp q (less (r .sp) 1)) []
 effectBy Releases r q w m = effect (withSp q (plus (r .sp) 1)) []
-effectBy (Branches t) r q w m = effect (withPc q (pick (w .taken) t (r .pc))) []
+effectBy (Branches t) r q w m = effect (withPc q (cond (w .taken) t (r .pc))) []
 effectBy (Jumps p) r q w m = effect (withPc q (addressOf p r)) []
 effectBy (Calls p) r q w m = effect (withPcSp q (addressOf p r) (less (r .sp) 2)) (pushStores (r .sp) (r .pc))
 effectBy Returns r q w m = effect (withPcSp q (wordAt m (plus (r .sp) 1)) (plus (r .sp) 2)) []

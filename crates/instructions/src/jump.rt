@@ -1,8 +1,8 @@
 // Branches, jumps and calls.
 ghost use mathlib.Core.Path.{_≡_};
+ghost use mathlib.Core.Bool.{cond};
 ghost use lib.ListN.{length};
 ghost use Rattle.registers.specs.Registers.{withPc};
-ghost use Rattle.opcodes.specs.Decode.{pick};
 ghost use Rattle.opcodes.specs.declared.instruction.Action.the-variants as Action;
 ghost use Rattle.instructions.specs.Sited.{GoesTo, GoesOnBits, JumpsTo, StoresAt};
 use crate::compute::all_set;
@@ -14,7 +14,7 @@ use registers::word::down;
 
 // On to the target of a branch that is taken.
 fn branch_if(taken: bool, t: u16, r: Registers) -> Registers
-    ensures { λ q. ⌜ q ≡ withPc r (pick taken t (r .pc)) ⌝ }
+    ensures { λ q. ⌜ q ≡ withPc r (cond taken t (r .pc)) ⌝ }
 {
     if taken { r.with_pc(t) } else { r }
 }

@@ -1,7 +1,7 @@
 -- The kind of an instruction, by what is found at its first two bytes.
 -- Assumes nothing.
 use mathlib.Core.Path.{_≡_, refl, sym, subst}
-use mathlib.Core.Bool.{Bool, true, false}
+use mathlib.Core.Bool.{Bool, true, false, cond as pick}
 use mathlib.Core.List.{List}
 use Prim.Native.Nat.{ℕ, _+_, _<_, _≤_}
 use native.Mathlib.Omega.{arith}
@@ -10,7 +10,7 @@ use borrow.Author.Tests.{eq-eqb, ne-eqb}
 use Rattle.opcodes.proofs.Rule.{below}
 use Rattle.opcodes.proofs.Says.{Said, there-says, nowhere-says}
 use Rattle.opcodes.specs.Tables.{costAt}
-use Rattle.opcodes.specs.Decode.{Bytes, pick, opcodeSize, instructionOf, decodeAt, foundOf}
+use Rattle.opcodes.specs.Decode.{Bytes, opcodeSize, instructionOf, decodeAt, foundOf}
 use Rattle.opcodes.specs.declared.decode.Found.the-variants as Found
 use Rattle.stepper.specs.Step.{fetched}
 use Rattle.rules.specs.Trace.{plain, kindIn, kindOf}

@@ -1,10 +1,9 @@
 -- What is left of a look: nothing once it has ended, else a turn and the rest.
 -- Assumes nothing.
 use mathlib.Core.Path.{_≡_, refl, sym, ap, _∙_}
-use mathlib.Core.Bool.{Bool, true, false}
+use mathlib.Core.Bool.{Bool, true, false, cond as pick}
 use mathlib.Core.List.{List}
 use Prim.Native.Nat.{ℕ, zero, suc}
-use Rattle.opcodes.specs.Decode.{pick}
 use Rattle.measure.specs.declared.look.Look.{Look}
 use Rattle.measure.specs.Look.{Turned, turned, turnOf, lookFrom}
 

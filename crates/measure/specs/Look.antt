@@ -1,12 +1,11 @@
 -- What a mark claims, measured along a run: the cycles and the stack bytes that a routine takes from an instruction to its own return (document 01, "The ticket": cost, depth, need).
 -- Assumes nothing.
 use Prim.Native.Nat.{ℕ, zero, suc, _+_, _-_}
-use mathlib.Core.Bool.{Bool, true, false}
+use mathlib.Core.Bool.{Bool, true, false, cond as pick}
 use mathlib.Core.List.{List}
 use lib.Dec.{eqb, ltb}
 use Rattle.registers.specs.Word.{less}
 use Rattle.registers.specs.declared.Registers.{Registers}
-use Rattle.opcodes.specs.Decode.{pick}
 use Rattle.stepper.specs.Answer.{Answer, done, refused}
 use Rattle.stepper.specs.Step.{stepOf}
 use Rattle.commands.specs.declared.command.Claim.{Claim}

@@ -1,4 +1,4 @@
--- What the C calls of the verdict and of the start come to, by the verdict's own definitions; and what they promise besides.
+-- What the C calls of the verdict and of the start come to, by the verdict's own definitions; and what they promise besides (document 01, "The machine": the press monitor is written in C).
 -- Assumes nothing.
 use Prim.Native.Nat.{ℕ}
 use mathlib.Core.Bool.{cond}

@@ -1,7 +1,7 @@
 -- A rule over two tables that are made of the rows: it holds at every number if it holds of each row, and where no row is.
 -- Assumes nothing.
 use mathlib.Core.Path.{_≡_, refl, subst}
-use mathlib.Core.Bool.{Bool, true, false}
+use mathlib.Core.Bool.{Bool, true, false, _&&_}
 use mathlib.Core.List.{List, [], _∷_}
 use Prim.Native.Nat.{ℕ, zero, suc, _+_}
 use native.Mathlib.Omega.{arith}
@@ -10,13 +10,13 @@ use lib.ListN.{getD}
 use borrow.Author.Tests.{eqb-true}
 use Rattle.opcodes.specs.Rows.{Row}
 use Rattle.opcodes.specs.Tables.{expand}
-use Rattle.opcodes.proofs.Every.{both, both-left, both-right}
+use Rattle.opcodes.proofs.Every.{both-left, both-right}
 
 module _ {A B : Type 0} (f : Row → A) (g : Row → B) (ok : ℕ → A → B → Bool) where
   -- of each row
   abbrev pub all : List Row → Bool
   all [] = true
-  all (r ∷ rs) = both (ok (r .place) (f r) (g r)) (all rs)
+  all (r ∷ rs) = ok (r .place) (f r) (g r) && all rs
 
   module _ (a : A) (b : B) (none : (p : ℕ) → T (ok p a b)) where
     -- k places after s

@@ -1,6 +1,6 @@
 pub mod Order
-pub mod Missed
 pub mod Skipped
+pub mod Missed
 pub mod Every
 pub mod ByRow
 pub mod Rule

@@ -2,17 +2,13 @@
 -- Assumes nothing.
 use mathlib.Core.Path.{_≡_, sym}
 use mathlib.Core.List.{List}
-use Prim.Native.Nat.{ℕ, zero, suc, _≤_}
+use Prim.Native.Nat.{ℕ}
 use native.Mathlib.Omega.{arith}
 use lib.ListN.{length, getD, List·getD-eq-default}
+use Rattle.opcodes.proofs.Skipped.{Skipped, skipped}
 
 abbrev pub Missed : ℕ → ℕ → Type 0
-Missed n zero = Unit {0}
-Missed n (suc k) = Missed n k × (n ≡ k → ⊥)
-
-past : (n k : ℕ) → Missed n k → k ≤ n
-past n zero m = omega arith
-past n (suc k) m = omega (arith, past n k (m .0), m .1)
+Missed n k = Skipped n 0 k
 
 pub missed : {A : Type 0} (n : ℕ) (xs : List A) (d : A) → Missed n (length xs) → d ≡ getD xs n d
-missed n xs d m = sym (List·getD-eq-default xs d (past n (length xs) m))
+missed n xs d m = sym (List·getD-eq-default xs d (omega (arith, skipped n 0 (length xs) (omega arith) m)))

@@ -1,7 +1,7 @@
 -- The bytes that lead to another map have no instruction in the first one, so that the first map may be looked at first.
 -- Assumes nothing.
 use mathlib.Core.Path.{_≡_, refl, sym, ap, _∙_}
-use mathlib.Core.Bool.{Bool, true, false}
+use mathlib.Core.Bool.{Bool, true, false, cond}
 use mathlib.Core.List.{List}
 use Prim.Native.Nat.{ℕ, _+_, _<_, _≤_}
 use native.Mathlib.Omega.{arith}
@@ -10,7 +10,7 @@ use lib.ListN.{getD}
 use borrow.Author.Tests.{eqb-true, eq-eqb, ne-eqb, lt-ltb, le-ltb}
 use Rattle.opcodes.specs.Tables.{costs, costAt}
 use Rattle.opcodes.specs.declared.decode.Found.the-variants as Found
-use Rattle.opcodes.specs.Decode.{pick, pageOf, placeOf, opcodeSize, foundOf}
+use Rattle.opcodes.specs.Decode.{pageOf, placeOf, opcodeSize, foundOf}
 
 pub prefixes-empty : (costAt 0x18 ≡ 0) × (costAt 0x1a ≡ 0) × (costAt 0xcd ≡ 0)
 unfolding costs costAt
@@ -20,7 +20,7 @@ module _ (op : ℕ) (h : costAt op ≡ 0 → ⊥) where
   never : (k : ℕ) → costAt k ≡ 0 → eqb op k ≡ true → ⊥
   never k z e = h (ap (λ (x : ℕ). costAt x) (eqb-true op k e) ∙ z)
 
-  pages : (a b c : Bool) → eqb op 0x18 ≡ a → eqb op 0x1a ≡ b → eqb op 0xcd ≡ c → _≡_ {A = ℕ} (pick a 256 (pick b 512 (pick c 768 0))) 0
+  pages : (a b c : Bool) → eqb op 0x18 ≡ a → eqb op 0x1a ≡ b → eqb op 0xcd ≡ c → _≡_ {A = ℕ} (cond a 256 (cond b 512 (cond c 768 0))) 0
   pages true b c p q r = absurd (never 0x18 (prefixes-empty .0) p)
   pages false true c p q r = absurd (never 0x1a (prefixes-empty .1) q)
   pages false false true p q r = absurd (never 0xcd (prefixes-empty .2) r)
@@ -31,7 +31,7 @@ module _ (op : ℕ) (h : costAt op ≡ 0 → ⊥) where
   unfolding pageOf
   plain = pages (eqb op 0x18) (eqb op 0x1a) (eqb op 0xcd) refl refl refl
 
-some : (a b c : Bool) → (_≡_ {A = ℕ} (pick a 256 (pick b 512 (pick c 768 0))) 0 → ⊥) → 256 ≤ pick a 256 (pick b 512 (pick c 768 0))
+some : (a b c : Bool) → (_≡_ {A = ℕ} (cond a 256 (cond b 512 (cond c 768 0))) 0 → ⊥) → 256 ≤ cond a 256 (cond b 512 (cond c 768 0))
 some true b c n = omega arith
 some false true c n = omega arith
 some false false true n = omega arith
@@ -41,7 +41,7 @@ a-page : (op : ℕ) → (pageOf op ≡ 0 → ⊥) → 256 ≤ pageOf op
 unfolding pageOf
 a-page op n = some (eqb op 0x18) (eqb op 0x1a) (eqb op 0xcd) n
 
-sizes : (b : Bool) → 1 ≤ pick b 1 2
+sizes : (b : Bool) → 1 ≤ cond b 1 2
 sizes true = omega arith
 sizes false = omega arith
 

@@ -1,7 +1,7 @@
 -- Document 01's rule of the table: an entry is 0, or has a length of 1 to 5 and 2 to 41 cycles. One test over the 1,024 places.
 -- Assumes nothing.
 use mathlib.Core.Path.{_≡_, refl}
-use mathlib.Core.Bool.{Bool, true}
+use mathlib.Core.Bool.{Bool, true, _&&_}
 use mathlib.Core.Logic.{_⊎_, inl, inr, ⊎-elim}
 use Prim.Native.Nat.{ℕ, zero, suc, _≤_, _<_, _/_, _%_}
 use native.Mathlib.Omega.{arith}
@@ -9,13 +9,13 @@ use lib.Dec.{T, leb, leb→le}
 use lib.ListN.{List·getD-eq-default}
 use Rattle.opcodes.specs.Tables.{costs, costAt}
 use Rattle.opcodes.proofs.Order.{le-or-lt}
-use Rattle.opcodes.proofs.Every.{both, both-left, both-right, every, at}
+use Rattle.opcodes.proofs.Every.{both-left, both-right, every, at}
 
 abbrev pub Ruled : ℕ → Type 0
 Ruled e = (e ≡ 0) ⊎ ((1 ≤ e / 256) × (e / 256 ≤ 5) × (2 ≤ e % 256) × (e % 256 ≤ 41))
 
 between : ℕ → ℕ → ℕ → Bool
-between a b n = both (leb a n) (leb n b)
+between a b n = leb a n && leb n b
 
 within : (a b n : ℕ) → T (between a b n) → (a ≤ n) × (n ≤ b)
 unfolding between
@@ -23,7 +23,7 @@ within a b n t = (leb→le a n (both-left (leb a n) (leb n b) t), leb→le n b (
 
 ok : ℕ → ℕ → Bool
 ok k zero = true
-ok k (suc e) = both (between 1 5 (suc e / 256)) (between 2 41 (suc e % 256))
+ok k (suc e) = between 1 5 (suc e / 256) && between 2 41 (suc e % 256)
 
 said : (k e : ℕ) → T (ok k e) → Ruled e
 unfolding ok

@@ -1,18 +1,20 @@
--- What is found says the place, the size of the opcode and the entry.
+-- What is found says the place, the size of the opcode and the entry; and where the table has 0 there is no instruction.
 -- Assumes nothing.
 use mathlib.Core.Path.{_≡_, refl, ap, _∙_}
-use mathlib.Core.Bool.{Bool, true, false}
-use Prim.Native.Nat.{ℕ}
+use mathlib.Core.Bool.{Bool, true, false, cond}
+use Prim.Native.Nat.{ℕ, _<_}
 use native.Mathlib.Omega.{arith}
 use lib.Dec.{eqb}
-use borrow.Author.Tests.{eqb-true, eqb-false}
+use borrow.Author.Tests.{eq-eqb, eqb-true, eqb-false}
 use Rattle.opcodes.specs.Tables.{costAt}
 use Rattle.opcodes.specs.declared.decode.Found.{Found}
 use Rattle.opcodes.specs.declared.decode.Found.the-variants as Found
-use Rattle.opcodes.specs.Decode.{pick, placeOf, opcodeSize, foundOf}
+use Rattle.opcodes.specs.declared.instruction.Decoded.the-variants.{Nothing}
+use Rattle.opcodes.specs.Decode.{Bytes, placeOf, opcodeSize, foundOf, decodeAt}
+use Rattle.opcodes.proofs.Rule.{below}
 
 abbrev foundBy : ℕ → Bool → Found
-foundBy q b = pick b Found.Nothing (Found.At q (opcodeSize q) (costAt q))
+foundBy q b = cond b Found.Nothing (Found.At q (opcodeSize q) (costAt q))
 
 there-by : (q : ℕ) (b : Bool) → eqb (costAt q) 0 ≡ b → (p s e : ℕ) → foundBy q b ≡ Found.At p s e
     → (q ≡ p) × (opcodeSize p ≡ s) × (costAt p ≡ e) × (costAt p ≡ 0 → ⊥)
@@ -38,3 +40,10 @@ module _ (first second : ℕ) where
   pub nowhere-says : foundOf first second ≡ Found.Nothing → costAt (placeOf first second) ≡ 0
   unfolding foundOf
   nowhere-says h = nowhere-by (placeOf first second) (eqb (costAt (placeOf first second)) 0) refl h
+
+  pub in-tables : {p s e : ℕ} → foundOf first second ≡ Found.At p s e → p < 1024
+  in-tables {p} {s} {e} h = below p (there-says p s e h .3)
+
+pub none-there : (p : ℕ) (f : Bytes) → costAt p ≡ 0 → decodeAt p f ≡ Nothing
+unfolding decodeAt
+none-there p f z = simp (eq-eqb _ _ z)

@@ -1,14 +1,14 @@
 -- Reading a truth word at the index of the flags gives what the test says of N, Z, V and C. One test over the sixteen.
 -- Assumes nothing.
 use mathlib.Core.Path.{_≡_, refl}
-use mathlib.Core.Bool.{Bool, true, false, not}
+use mathlib.Core.Bool.{Bool, true, false, not, _&&_}
 use Prim.Native.Nat.{ℕ, _+_, _*_, _<_, _%_}
 use lib.Dec.{T}
 use lib.ListN.{getD}
 use Rattle.registers.specs.Flags.{bit, one}
 use Rattle.registers.specs.declared.flags.Flags.{Flags}
 use Rattle.opcodes.specs.Conditions.{Test, tests, truthWords, holdsOf}
-use Rattle.opcodes.proofs.Every.{both, both-left, both-right, every, at}
+use Rattle.opcodes.proofs.Every.{both-left, both-right, every, at}
 
 same : Bool → Bool → Bool
 same true b = b
@@ -22,7 +22,7 @@ said false true t = absurd t
 said false false t = refl
 
 either : (Bool → Bool) → Bool
-either f = both (f true) (f false)
+either f = f true && f false
 
 of-either : (f : Bool → Bool) → T (either f) → (b : Bool) → T (f b)
 unfolding either

@@ -1,7 +1,7 @@
 -- What stands at an address, by the bytes from there on: an opcode of one byte, or $18, $1A or $CD and a second byte; then the operand (document 01).
 -- Assumes nothing.
 use Prim.Native.Nat.{ℕ, _+_, _*_}
-use mathlib.Core.Bool.{Bool, true, false}
+use mathlib.Core.Bool.{cond}
 use lib.Dec.{eqb, ltb}
 use Rattle.opcodes.specs.declared.instruction.Address.{Address}
 use Rattle.opcodes.specs.declared.instruction.Address.the-variants as Address
@@ -15,30 +15,26 @@ use Rattle.opcodes.specs.declared.decode.Found.{Found}
 use Rattle.opcodes.specs.declared.decode.Found.the-variants as Found
 use Rattle.opcodes.specs.Tables.{costAt, actionAt, modeAt}
 
-abbrev pub pick {ℓ} : {A : Type ℓ} → Bool → A → A → A
-pick true a b = a
-pick false a b = b
-
 -- the bytes from an address on, by their offset: only the first five are looked at
 abbrev pub Bytes : Type 0
 Bytes = ℕ → ℕ
 
 -- 256 times the map that a first byte leads to
 unfoldable pub pageOf : ℕ → ℕ
-pageOf op = pick (eqb op 0x18) 256 (pick (eqb op 0x1a) 512 (pick (eqb op 0xcd) 768 0))
+pageOf op = cond (eqb op 0x18) 256 (cond (eqb op 0x1a) 512 (cond (eqb op 0xcd) 768 0))
 
 -- the place of an opcode in the four maps
 unfoldable pub placeOf : ℕ → ℕ → ℕ
-placeOf first second = pick (eqb (pageOf first) 0) first (pageOf first + second)
+placeOf first second = cond (eqb (pageOf first) 0) first (pageOf first + second)
 
 -- how many bytes the opcode has
 unfoldable pub opcodeSize : ℕ → ℕ
-opcodeSize place = pick (ltb place 256) 1 2
+opcodeSize place = cond (ltb place 256) 1 2
 
 -- the place, the size of the opcode and the entry of the table, where an instruction is
 unfoldable pub foundOf : ℕ → ℕ → Found
 foundOf first second =
-    let p = placeOf first second in pick (eqb (costAt p) 0) Found.Nothing (Found.At p (opcodeSize p) (costAt p))
+    let p = placeOf first second in cond (eqb (costAt p) 0) Found.Nothing (Found.At p (opcodeSize p) (costAt p))
 
 abbrev pub wordOf : ℕ → ℕ → ℕ
 wordOf high low = high * 256 + low
@@ -88,7 +84,7 @@ placeIn f = placeOf (f 0) (f 1)
 unfoldable pub decodeAt : ℕ → Bytes → Decoded
 decodeAt place f =
     let n = opcodeSize place in
-    pick (eqb (costAt place) 0) Nothing (instructionOf place (f n) (f (n + 1)) (f (n + 2)))
+    cond (eqb (costAt place) 0) Nothing (instructionOf place (f n) (f (n + 1)) (f (n + 2)))
 
 abbrev pub decodeOf : Bytes → Decoded
 decodeOf f = decodeAt (placeIn f) f

@@ -1,4 +1,4 @@
--- The modes that an action can have. The table gives an action no other, so the code that takes its operand looks for these alone.
+-- The modes that an action can have. The table gives an action no other, so the code that takes its operand looks for these alone. An inner matter of the code.
 -- Assumes nothing.
 use mathlib.Core.Bool.{Bool, true, false}
 use Rattle.opcodes.specs.declared.instruction.Action.{Action}

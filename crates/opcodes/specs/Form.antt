@@ -1,11 +1,10 @@
 -- The form of an instruction, from its action, its operand and the address after it: what it does to PC, SP and memory.
--- The step takes PC, SP and the addresses that are written from it, and so will the ticket rules (document 01, "Rules at a mark").
+-- The step takes PC, SP and the addresses that are written from it, and so do the ticket rules (`rules/specs/Shape.antt`; document 01, "Rules at a mark").
 -- Assumes nothing.
 use Prim.Native.Nat.{ℕ, _+_, _%_}
-use mathlib.Core.Bool.{Bool, true, false}
+use mathlib.Core.Bool.{Bool, true, false, cond}
 use lib.Dec.{eqb, ltb}
 use Rattle.registers.specs.Word.{plus}
-use Rattle.opcodes.specs.Decode.{pick}
 use Rattle.opcodes.specs.declared.instruction.Action.{Action}
 use Rattle.opcodes.specs.declared.instruction.Action.the-variants.{Inherent, Unary, TstAccumulator, Binary, TstMemory, LoadWord, Addd, Subd, CompareWord, StoreByte, StoreWord, Modify, Bset, Bclr, Brset, Brclr, Branch, Jmp, Call, Rts, PushByte, PushWord, PullByte, PullWord, Des, Ins, SetStack, Swi, Rti, Wai, Stop, Test}
 use Rattle.opcodes.specs.declared.instruction.Word.{Word}
@@ -19,7 +18,7 @@ use Rattle.opcodes.specs.declared.form.Form.the-variants.{Computes, Stor
 
 -- a relative offset is signed, and counts from the next instruction
 unfoldable pub targetOf : ℕ → ℕ → ℕ
-targetOf next d = pick (ltb d 128) (plus next d) (plus next (d + 0xff00))
+targetOf next d = cond (ltb d 128) (plus next d) (plus next (d + 0xff00))
 
 -- where the operand stands, or where a jump goes. An inherent or immediate operand names no address
 unfoldable pub addressIn : Operand → ℕ → Address
@@ -47,7 +46,7 @@ targetIn (Operand.MaskBranch a k d) next = targetOf next d
 
 -- BRA always branches and BRN never; the others go both ways
 abbrev pub branchForm : ℕ → ℕ → Form
-branchForm k target = pick (eqb k 0) (Jumps (Fixed target)) (pick (eqb k 1) Computes (Branches target))
+branchForm k target = cond (eqb k 0) (Jumps (Fixed target)) (cond (eqb k 1) Computes (Branches target))
 
 abbrev pub loadForm : Word → Form
 loadForm Wd.D = Computes

@@ -1,4 +1,4 @@
--- What a C call comes to: its outcome number, what it answers beside it, and the lent bytes afterwards, all by the stepper's own definitions.
+-- What a C call comes to: its outcome number, what it answers beside it, and the lent bytes afterwards, all by the stepper's own definitions (document 01, "The machine": the press monitor is written in C).
 -- Assumes nothing.
 use Prim.Native.Nat.{ℕ}
 use mathlib.Core.Bool.{Bool, cond, _&&_}

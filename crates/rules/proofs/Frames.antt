@@ -8,7 +8,7 @@ use native.Mathlib.Omega.{arith}
 use Rattle.memory.specs.Memory.{byteAt}
 use Rattle.commands.specs.declared.command.Claim.{Claim}
 use Rattle.ticket.specs.Fields.{Fields}
-use Rattle.ticket.specs.Rules.{Every, none, more}
+use Rattle.commands.specs.Every.{Every, none, more}
 use Rattle.rules.specs.Marks.{claimAt}
 use Rattle.rules.specs.Claim.{topOf}
 use Rattle.rules.proofs.Memory.{Holds}

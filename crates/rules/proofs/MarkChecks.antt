@@ -3,31 +3,30 @@
 use Prim.Native.Nat.{ℕ}
 use mathlib.Core.Path.{_≡_, refl}
 use mathlib.Core.Logic.{_↔_}
-use mathlib.Core.Bool.{Bool, true, false≢true}
+use mathlib.Core.Bool.{Bool, true, false≢true, and-eq-true-iff}
 use mathlib.Core.List.{List, [], _∷_}
 use mathlib.Core.Option.{Option, none, some}
 use borrow.Author.Tests.{leb-true, eqb-true}
 use Rattle.commands.specs.declared.command.Claim.{Claim}
 use Rattle.commands.specs.declared.command.Window.{Window}
 use Rattle.commands.specs.Cause.{holds}
+use Rattle.commands.proofs.Every.{first}
 use Rattle.ticket.specs.declared.fields.Mark.{Mark}
 use Rattle.ticket.specs.Fields.{Fields}
-use Rattle.ticket.specs.Rules.{Every, In}
-use Rattle.ticket.proofs.Says.{and-says, leb-says, ltb-says, eqb-says}
+use Rattle.commands.specs.Every.{Every}
+use Rattle.ticket.specs.Rules.{In}
+use Rattle.ticket.proofs.Says.{leb-says, ltb-says, eqb-says}
 use Rattle.rules.specs.Shape.{Shape, ordinary, call, return, forbidden, nothing}
 use Rattle.rules.specs.Marks.{claimAt}
 use Rattle.rules.specs.Rules.{Follows, CallRules, RulesBy, RulesAt}
-use Rattle.rules.specs.Checks.{all, isMarked, nextMarked, depthsAgree, costCovers, needCovers, checksBy, checksAt, checksOfMarks}
+use Rattle.rules.specs.Checks.{all, isMarked, nextMarked, depthsAgree, costsCover, needsCover, checksBy, checksAt, checksOfMarks}
 use Rattle.rules.proofs.Passes.{Passes, append-says}
 
-pub ruleset tests = (and-says, leb-says, ltb-says, eqb-says)
+pub ruleset tests = (and-eq-true-iff, leb-says, ltb-says, eqb-says)
 
 pub marked : (o : Option Claim) → isMarked o ≡ true → (c : Claim) × (o ≡ some c)
 marked none e = absurd (false≢true e)
 marked (some c) e = (c, refl)
-
-first : {A : Type 0} {P : A → Type 0} {a : A} {l : List A} → Every P (a ∷ l) → P a × Every P l
-first (Every.more r s) = (r, s)
 
 written-says : (w : Window) (l : List ℕ) → (all (holds w) l ≡ true) ↔ Every (In w) l
 written-says w [] = (λ e. Every.none, λ r. refl)
@@ -35,7 +34,7 @@ written-says w (a ∷ l) = simp (tests, written-says w l) (λ e. Every.more (e .
 
 -- the checks of causes 14 to 17 pass
 abbrev LeadsOn : Fields → Claim → Shape → Type 0
-LeadsOn f k s = (nextMarked f k s ≡ true) × (depthsAgree f k s ≡ true) × (costCovers f k s ≡ true) × (needCovers f k s ≡ true)
+LeadsOn f k s = (nextMarked f k s ≡ true) × (depthsAgree f k s ≡ true) × (costsCover f k s ≡ true) × (needsCover f k s ≡ true)
 
 module _ (f : Fields) (k : Claim) where
   next-says : (pushed pulled cycles : ℕ) (l w : List ℕ) → LeadsOn f k (ordinary l pushed pulled w cycles) ↔ Every (Follows (f .marks) k pushed pulled cycles) l

@@ -2,17 +2,16 @@
 -- Assumes nothing.
 use Prim.Native.Nat.{ℕ}
 use mathlib.Core.Path.{_≡_, refl, sym}
-use mathlib.Core.Bool.{Bool, true, false}
+use mathlib.Core.Bool.{Bool, true, false, cond}
 use mathlib.Core.List.{List, [], _∷_}
 use mathlib.Core.Option.{some}
 use native.Mathlib.Omega.{arith}
 use lib.Dec.{eqb}
 use borrow.Author.Tests.{eqb-true}
-use Rattle.opcodes.specs.Decode.{pick}
 use Rattle.commands.specs.declared.command.Claim.{Claim}
 use Rattle.ticket.specs.declared.fields.Mark.{Mark}
 use Rattle.ticket.specs.declared.fields.Name.{Name}
-use Rattle.ticket.specs.Rules.{Every, none, more}
+use Rattle.commands.specs.Every.{Every, none, more}
 use Rattle.rules.specs.Marks.{claimAt}
 
 -- of a mark with this address and claim
@@ -20,7 +19,7 @@ abbrev pub Holding : (Mark → Type 0) → ℕ → Claim → Type 0
 Holding Q a k = (n : Name) × Q (record { address = a; claim = k; name = n })
 
 here : (Q : Mark → Type 0) (m : Mark) (ms : List Mark) (a : ℕ) (k : Claim) (b : Bool) → eqb (m .address) a ≡ b → Q m
-    → (claimAt ms a ≡ some k → Holding Q a k) → pick b (some (m .claim)) (claimAt ms a) ≡ some k → Holding Q a k
+    → (claimAt ms a ≡ some k → Holding Q a k) → cond b (some (m .claim)) (claimAt ms a) ≡ some k → Holding Q a k
 here Q m ms a k true t q later h =
     let same : a ≡ m .address = sym (eqb-true (m .address) a t) in
     let claims : k ≡ m .claim = cc in

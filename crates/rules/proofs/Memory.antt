@@ -2,7 +2,6 @@
 -- Assumes nothing.
 use Prim.Native.Nat.{ℕ, _+_, _-_, _*_, _/_, _%_, _≤_, _<_}
 use mathlib.Core.Path.{_≡_, refl, sym, _∙_}
-use mathlib.Core.Logic.{inl, inr}
 use mathlib.Core.List.{List, [], _∷_}
 use native.Mathlib.Omega.{arith}
 use native.Mathlib.Nat.{div-add-mod'}
@@ -11,17 +10,7 @@ use lib.Seq.{getD-set-same, getD-set-other}
 use Rattle.registers.specs.Word.{plus, less}
 use Rattle.registers.proofs.Wrap.{plus-plus}
 use Rattle.memory.specs.Memory.{Store, byteAt, wordAt, withByte, applied, pushStores}
-use Rattle.ticket.specs.Rules.{Every, none, more}
-use Rattle.rules.proofs.Obeys.{Some}
-
-pub every-map : {A : Type 0} {P Q : A → Type 0} {l : List A} → ((a : A) → P a → Q a) → Every P l → Every Q l
-every-map h none = none
-every-map h (more p ps) = more (h _ p) (every-map h ps)
-
-pub every-some : {P Q : ℕ → Type 0} (l : List ℕ) → Every P l → Some Q l → (a : ℕ) × P a × Q a
-every-some [] none s = absurd s
-every-some (a ∷ l) (more p ps) (inl q) = (a, p, q)
-every-some (a ∷ l) (more p ps) (inr s) = every-some l ps s
+use Rattle.commands.specs.Every.{Every, none, more}
 
 -- ---- sums that do not wrap
 

@@ -2,7 +2,7 @@
 -- Assumes nothing.
 use Prim.Native.Nat.{ℕ, _+_, _-_, _/_, _%_, _≤_, _<_}
 use mathlib.Core.Path.{_≡_, refl, ap}
-use mathlib.Core.Bool.{Bool, true, false}
+use mathlib.Core.Bool.{Bool, true, false, cond}
 use mathlib.Core.Logic.{_⊎_, inl, inr}
 use mathlib.Core.List.{List, [], _∷_}
 use native.Mathlib.Omega.{arith}
@@ -12,7 +12,7 @@ use Rattle.registers.specs.Word.{plus, less}
 use Rattle.registers.specs.Registers.{withPc}
 use Rattle.registers.specs.declared.Registers.{Registers}
 use Rattle.memory.specs.Memory.{Store, store, wordAt}
-use Rattle.opcodes.specs.Decode.{pick, placeIn, decodeOf}
+use Rattle.opcodes.specs.Decode.{placeIn, decodeOf}
 use Rattle.opcodes.specs.Form.{formOf, waits}
 use Rattle.opcodes.specs.Tables.{lengthAt, cyclesAt}
 use Rattle.opcodes.specs.declared.instruction.Address.the-variants.{Fixed, IndexedX, IndexedY}
@@ -25,7 +25,7 @@ use Rattle.instructions.specs.Outcome.{Outcome, outcomeOf}
 use Rattle.instructions.specs.Effect.{effectBy, effectWith, effectOf}
 use Rattle.stepper.specs.Step.{Did, did, fetched, executed, carriedOut, didIf, didOf, after, stepOf}
 use Rattle.stepper.proofs.Costs.{step-cost}
-use Rattle.ticket.specs.Rules.{Every, none, more}
+use Rattle.commands.specs.Every.{Every, none, more}
 use Rattle.rules.specs.Shape.{Shape, ordinary, call, return, forbidden, nothing, shapeBy, shapeIn, shapeOf}
 use Rattle.rules.specs.Trace.{calls, returns, plain, kindBy, kindIn, kindOf}
 
@@ -33,6 +33,11 @@ use Rattle.rules.specs.Trace.{calls, returns, plain, kindBy, kindIn, kin
 abbrev pub Some : (ℕ → Type 0) → List ℕ → Type 0
 Some P [] = ⊥
 Some P (a ∷ l) = P a ⊎ Some P l
+
+pub every-some : {P Q : ℕ → Type 0} (l : List ℕ) → Every P l → Some Q l → (a : ℕ) × P a × Q a
+every-some [] none s = absurd s
+every-some (a ∷ l) (more p ps) (inl q) = (a, p, q)
+every-some (a ∷ l) (more p ps) (inr s) = every-some l ps s
 
 -- a store of an ordinary instruction: on the stack from SP down, above the SP that it leaves, or to one of the addresses written
 abbrev pub Stored : Registers → (pushed pulled : ℕ) → List ℕ → Store → Type 0
@@ -51,7 +56,7 @@ Obeys forbidden r m = Unit
 Obeys nothing r m = Unit
 
 -- a branch goes one of its two ways
-either : (b : Bool) (t next : ℕ) → Some (λ a. pick b t next ≡ a) (t ∷ next ∷ [])
+either : (b : Bool) (t next : ℕ) → Some (λ a. cond b t next ≡ a) (t ∷ next ∷ [])
 either true t next = inl refl
 either false t next = inr (inl refl)
 

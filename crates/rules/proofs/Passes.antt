@@ -3,12 +3,11 @@
 use Prim.Native.Nat.{ℕ}
 use mathlib.Core.Path.{_≡_, refl}
 use mathlib.Core.Logic.{_↔_}
-use mathlib.Core.Bool.{Bool, true, false, false≢true}
+use mathlib.Core.Bool.{Bool, true, false, cond, false≢true}
 use mathlib.Core.List.{List, [], _∷_, _++_}
 use native.Mathlib.Omega.{arith}
 use Rattle.registers.specs.declared.Cycles.{Cycles}
 use Rattle.registers.specs.declared.StackBytes.{StackBytes}
-use Rattle.opcodes.specs.Decode.{pick}
 use Rattle.commands.specs.declared.command.Refusal.{Refusal}
 use Rattle.rules.specs.declared.Verdict.{Verdict}
 use Rattle.rules.specs.declared.Verdict.the-variants.{Accept, Refuse}
@@ -27,10 +26,10 @@ module _ (e : ℕ) (c : Cycles) (s : StackBytes) where
   pub refuses : (r : Refusal) → Refuse r ≡ Accept e c s → ⊥
   refuses r h = let z : _≡_ {A = ℕ} 0 1 = cc in omega arith
 
-  pick-says : (b : Bool) (v : Verdict) (r : Refusal) → (pick b v (Refuse r) ≡ Accept e c s) ↔ ((b ≡ true) × (v ≡ Accept e c s))
-  pick-says true v r = (λ h. (refl, h), λ h. h .1)
-  pick-says false v r = (λ h. absurd (refuses r h), λ h. absurd (false≢true (h .0)))
+  cond-says : (b : Bool) (v : Verdict) (r : Refusal) → (cond b v (Refuse r) ≡ Accept e c s) ↔ ((b ≡ true) × (v ≡ Accept e c s))
+  cond-says true v r = (λ h. (refl, h), λ h. h .1)
+  cond-says false v r = (λ h. absurd (refuses r h), λ h. absurd (false≢true (h .0)))
 
   pub first-says : (cs : List Check) (v : Verdict) → (firstOf cs v ≡ Accept e c s) ↔ (Passes cs × (v ≡ Accept e c s))
   first-says [] v = (λ h. (tt, h), λ h. h .1)
-  first-says (k ∷ cs) v = simp (pick-says, first-says cs v) (λ h. search, λ h. search)
+  first-says (k ∷ cs) v = simp (cond-says, first-says cs v) (λ h. search, λ h. search)

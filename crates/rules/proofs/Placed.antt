@@ -7,10 +7,12 @@ use mathlib.Core.List.{List}
 use native.Mathlib.Omega.{arith}
 use lib.ListN.{length, getD}
 use Rattle.memory.specs.Memory.{Store, byteAt, applied}
+use Rattle.commands.proofs.Every.{every-map}
 use Rattle.ticket.specs.Fields.{Fields}
-use Rattle.ticket.specs.Rules.{Every, In, HeaderRules}
+use Rattle.commands.specs.Every.{Every}
+use Rattle.ticket.specs.Rules.{In, HeaderRules}
 use Rattle.rules.specs.Claim.{topOf, Spares}
-use Rattle.rules.proofs.Memory.{every-map, byte-applied}
+use Rattle.rules.proofs.Memory.{byte-applied}
 use Rattle.rules.proofs.Frames.{Frame, Stacked, pairs, base-top, pairs-away, stacked-keep}
 
 -- a store of a routine with base b: on the stack at b or below, or to the data window

@@ -12,16 +12,18 @@ use Rattle.registers.specs.declared.Registers.{Registers}
 use Rattle.memory.specs.Memory.{Store, store, wordAt, applied, pushStores}
 use Rattle.stepper.specs.Step.{did, fetched, didOf}
 use Rattle.commands.specs.declared.command.Claim.{Claim}
+use Rattle.commands.proofs.Every.{every-map}
 use Rattle.ticket.specs.Fields.{Fields}
-use Rattle.ticket.specs.Rules.{Every, none, more, In, HeaderRules, MarkRules}
+use Rattle.commands.specs.Every.{Every, none, more}
+use Rattle.ticket.specs.Rules.{In, HeaderRules, MarkRules}
 use Rattle.rules.specs.Shape.{Shape, ordinary, call, return, forbidden, nothing, shapeOf}
 use Rattle.rules.specs.Marks.{claimAt, imageFrom}
 use Rattle.rules.specs.Rules.{Follows, OrdinaryRules, CallRules, ReturnRules, RulesBy, RulesAt, Accepted}
 use Rattle.rules.specs.Trace.{kindOf, inUseAfter}
 use Rattle.rules.specs.Claim.{topOf, Spares}
-use Rattle.rules.proofs.Obeys.{Stored, Obeys, obeys}
+use Rattle.rules.proofs.Obeys.{every-some, Stored, Obeys, obeys}
 use Rattle.rules.proofs.SameShape.{same-shape}
-use Rattle.rules.proofs.Memory.{every-map, every-some, less-is, plus-is, moved-is, length-applied, pushed-holds, word-holds}
+use Rattle.rules.proofs.Memory.{less-is, plus-is, moved-is, length-applied, pushed-holds, word-holds}
 use Rattle.rules.proofs.Marks.{Holding, holding}
 use Rattle.rules.proofs.Frames.{Frame, Stacked, owed, pairs, base-top}
 use Rattle.rules.proofs.Placed.{Placed, Filled, placed-spares, code-kept, stack-kept}

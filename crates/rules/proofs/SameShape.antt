@@ -5,21 +5,20 @@ use mathlib.Core.Path.{_≡_, sym, ap, _∙_}
 use mathlib.Core.List.{List}
 use native.Mathlib.Omega.{arith}
 use lib.ListN.{length, getD}
-use borrow.Author.Tests.{eq-eqb}
 use Rattle.registers.specs.Word.{plus}
 use Rattle.memory.specs.Memory.{byteAt}
 use Rattle.opcodes.specs.Tables.{costAt, lengthAt}
-use Rattle.opcodes.specs.Decode.{Bytes, placeIn, decodeAt}
+use Rattle.opcodes.specs.Decode.{Bytes, placeIn}
 use Rattle.opcodes.proofs.Local.{local}
+use Rattle.opcodes.proofs.Says.{none-there}
 use Rattle.commands.specs.declared.command.Window.{Window}
 use Rattle.stepper.specs.Step.{fetched}
 use Rattle.rules.specs.Shape.{nothing, shapeOf, sizeOf}
 use Rattle.rules.specs.Marks.{imageFrom}
 
--- where the table has 0 there is no instruction
-none-there : (f : Bytes) (a : ℕ) → costAt (placeIn f) ≡ 0 → shapeOf f a ≡ nothing
-unfolding shapeOf decodeAt
-none-there f a z = simp (eq-eqb _ _ z)
+no-shape : (f : Bytes) (a : ℕ) → costAt (placeIn f) ≡ 0 → shapeOf f a ≡ nothing
+unfolding shapeOf
+no-shape f a z = simp (none-there _ f z)
 
 pub same-shape : (code : Window) (image m : List ℕ) (a : ℕ) → (shapeOf (imageFrom code image a) a ≡ nothing → ⊥) → code .start ≤ a
     → a + sizeOf (imageFrom code image a) ≤ code .start + code .length → code .start + code .length ≤ 65536 → length image ≡ code .length
@@ -28,6 +27,6 @@ unfolding shapeOf sizeOf plus
 same-shape code image m a there from within fits whole loaded =
     let f = imageFrom code image a in
     let place : (i : ℕ) → i < lengthAt (placeIn f) → code .start + (a - code .start + i) ≡ plus a i = λ i h. omega arith in
-    let l = local f (fetched m a) (λ z. there (none-there f a z))
+    let l = local f (fetched m a) (λ z. there (no-shape f a z))
     (λ i h. sym (loaded (a - code .start + i) (omega arith)) ∙ ap (byteAt m) (place i h)) in
     rw (l .1, l .0)

@@ -1,12 +1,11 @@
 -- The verdict: document 01's causes in its order, each a test; the first that fails is the answer, with its number and place.
 -- Assumes nothing.
 use Prim.Native.Nat.{ℕ, _+_}
-use mathlib.Core.Bool.{Bool, true, false, _&&_}
+use mathlib.Core.Bool.{Bool, true, false, cond, _&&_}
 use mathlib.Core.List.{List, [], _∷_, _++_}
 use mathlib.Core.Option.{Option, none, some}
 use lib.Dec.{eqb, leb}
 use lib.ListN.{length}
-use Rattle.opcodes.specs.Decode.{pick}
 use Rattle.commands.specs.Cause.{pastOf, holds}
 use Rattle.commands.specs.declared.command.Claim.{Claim}
 use Rattle.ticket.specs.declared.fields.Mark.{Mark}
@@ -29,7 +28,7 @@ check n p b = record { number = n; place = p; passes = b }
 -- the first that fails, or what follows if none does
 abbrev pub firstOf : List Check → Verdict → Verdict
 firstOf [] v = v
-firstOf (c ∷ cs) v = pick (c .passes) (firstOf cs v) (Refuse (refusal (c .number) (c .place)))
+firstOf (c ∷ cs) v = cond (c .passes) (firstOf cs v) (Refuse (refusal (c .number) (c .place)))
 
 abbrev pub all : (ℕ → Bool) → List ℕ → Bool
 all p [] = true
@@ -43,6 +42,30 @@ isMarked (some c) = true
 abbrev pub onMark : (Claim → Bool) → Option Claim → Bool
 onMark p none = true
 onMark p (some c) = p c
+
+-- the claim c at a successor of an ordinary instruction, against the mark's own claim k
+abbrev pub depthAgrees : Claim → ℕ → ℕ → Claim → Bool
+depthAgrees k pushed pulled c = eqb (c .depth .0 + pulled) (k .depth .0 + pushed)
+
+abbrev pub costCovers : Claim → ℕ → Claim → Bool
+costCovers k cycles c = leb (cycles + c .cost .0) (k .cost .0)
+
+abbrev pub needCovers : Claim → ℕ → ℕ → Claim → Bool
+needCovers k pushed pulled c = leb (pushed + c .need .0) (k .need .0 + pulled)
+
+abbrev pub hasDepth : ℕ → Claim → Bool
+hasDepth d c = eqb (c .depth .0) d
+
+-- the claims t at a call's target and b at the address after it, against k
+abbrev pub costCoversCall : Claim → ℕ → Claim → Claim → Bool
+costCoversCall k cycles t b = leb (cycles + t .cost .0 + b .cost .0) (k .cost .0)
+
+-- a claim at a call's target, under the two bytes of the return address
+abbrev pub needCoversTarget : Claim → Claim → Bool
+needCoversTarget k c = leb (2 + c .need .0) (k .need .0)
+
+abbrev pub needCoversAfter : Claim → Claim → Bool
+needCoversAfter k c = leb (c .need .0) (k .need .0)
 
 abbrev pub exists : Shape → Bool
 exists (ordinary next pushed pulled written cycles) = true
@@ -82,30 +105,30 @@ module _ (f : Fields) (k : Claim) where
 
   abbrev pub depthsAgree : Shape → Bool
   depthsAgree (ordinary next pushed pulled written cycles) =
-      all (λ a. onMark (λ c. eqb (c .depth .0 + pulled) (k .depth .0 + pushed)) (claimAt (f .marks) a)) next
+      all (λ a. onMark (depthAgrees k pushed pulled) (claimAt (f .marks) a)) next
   depthsAgree (call target after cycles) =
-      onMark (λ c. eqb (c .depth .0) 0) (claimAt (f .marks) target) && onMark (λ c. eqb (c .depth .0) (k .depth .0)) (claimAt (f .marks) after)
+      onMark (hasDepth 0) (claimAt (f .marks) target) && onMark (hasDepth (k .depth .0)) (claimAt (f .marks) after)
   depthsAgree (return cycles) = true
   depthsAgree forbidden = true
   depthsAgree nothing = true
 
-  abbrev pub costCovers : Shape → Bool
-  costCovers (ordinary next pushed pulled written cycles) =
-      all (λ a. onMark (λ c. leb (cycles + c .cost .0) (k .cost .0)) (claimAt (f .marks) a)) next
-  costCovers (call target after cycles) =
-      onMark (λ t. onMark (λ b. leb (cycles + t .cost .0 + b .cost .0) (k .cost .0)) (claimAt (f .marks) after)) (claimAt (f .marks) target)
-  costCovers (return cycles) = leb cycles (k .cost .0)
-  costCovers forbidden = true
-  costCovers nothing = true
+  abbrev pub costsCover : Shape → Bool
+  costsCover (ordinary next pushed pulled written cycles) =
+      all (λ a. onMark (costCovers k cycles) (claimAt (f .marks) a)) next
+  costsCover (call target after cycles) =
+      onMark (λ t. onMark (λ b. costCoversCall k cycles t b) (claimAt (f .marks) after)) (claimAt (f .marks) target)
+  costsCover (return cycles) = leb cycles (k .cost .0)
+  costsCover forbidden = true
+  costsCover nothing = true
 
-  abbrev pub needCovers : Shape → Bool
-  needCovers (ordinary next pushed pulled written cycles) =
-      all (λ a. onMark (λ c. leb (pushed + c .need .0) (k .need .0 + pulled)) (claimAt (f .marks) a)) next
-  needCovers (call target after cycles) =
-      onMark (λ c. leb (2 + c .need .0) (k .need .0)) (claimAt (f .marks) target) && onMark (λ c. leb (c .need .0) (k .need .0)) (claimAt (f .marks) after)
-  needCovers (return cycles) = true
-  needCovers forbidden = true
-  needCovers nothing = true
+  abbrev pub needsCover : Shape → Bool
+  needsCover (ordinary next pushed pulled written cycles) =
+      all (λ a. onMark (needCovers k pushed pulled) (claimAt (f .marks) a)) next
+  needsCover (call target after cycles) =
+      onMark (needCoversTarget k) (claimAt (f .marks) target) && onMark (needCoversAfter k) (claimAt (f .marks) after)
+  needsCover (return cycles) = true
+  needsCover forbidden = true
+  needsCover nothing = true
 
 -- causes 10 to 17, at a mark; `inside` says that the instruction does not leave the code window
 abbrev pub checksBy : Fields → Mark → Shape → Bool → List Check
@@ -116,8 +139,8 @@ checksBy f m s inside =
     ∷ check 13 (m .address) (pullsWithinDepth f (m .claim) s)
     ∷ check 14 (m .address) (nextMarked f (m .claim) s)
     ∷ check 15 (m .address) (depthsAgree f (m .claim) s)
-    ∷ check 16 (m .address) (costCovers f (m .claim) s)
-    ∷ check 17 (m .address) (needCovers f (m .claim) s)
+    ∷ check 16 (m .address) (costsCover f (m .claim) s)
+    ∷ check 17 (m .address) (needsCover f (m .claim) s)
     ∷ []
 
 unfoldable pub checksAt : Fields → List ℕ → Mark → List Check
@@ -134,7 +157,7 @@ abbrev pub wholeChecks : Fields → List Check
 wholeChecks f =
     let entry = f .header .entry in
     let claim = claimAt (f .marks) entry in
-    check 18 entry (isMarked claim && onMark (λ c. eqb (c .depth .0) 0) claim)
+    check 18 entry (isMarked claim && onMark (hasDepth 0) claim)
     ∷ check 19 entry (onMark (λ c. leb (c .cost .0) (f .header .limit .0)) claim)
     ∷ check 20 entry (onMark (λ c. leb (c .need .0 + 2) (f .header .stack .length)) claim)
     ∷ []

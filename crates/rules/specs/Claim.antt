@@ -1,4 +1,4 @@
--- Demand 3 as a statement about `stepOf`'s instructions and `runOf`: an accepted routine comes home.
+-- Demand 3 as a statement about `stepOf`'s instructions and `runOf`: an accepted routine comes home (document 01, "Start" and "The way home").
 -- Assumes nothing.
 use Prim.Native.Nat.{ℕ, _+_, _-_, _≤_, _<_}
 use mathlib.Core.Path.{_≡_}
@@ -12,7 +12,8 @@ use Rattle.memory.specs.Memory.{Store, byteAt}
 use Rattle.stepper.specs.Answer.{home, spent}
 use Rattle.stepper.specs.Run.{AfterRun, runOf}
 use Rattle.ticket.specs.Fields.{Fields}
-use Rattle.ticket.specs.Rules.{Every, In}
+use Rattle.commands.specs.Every.{Every}
+use Rattle.ticket.specs.Rules.{In}
 use Rattle.rules.specs.Trace.{Deed, total, Along, inUseAfter}
 
 -- T, the stack window's last address

@@ -12,7 +12,8 @@ use Rattle.ticket.specs.declared.fields.Mark.{Mark}
 use Rattle.ticket.specs.Fields.{Fields}
 use Rattle.ticket.specs.Write.{bytesOf}
 use Rattle.ticket.specs.RoundTrip.{FitsFields}
-use Rattle.ticket.specs.Rules.{Every, In, Readable}
+use Rattle.commands.specs.Every.{Every}
+use Rattle.ticket.specs.Rules.{In, Readable}
 use Rattle.rules.specs.Shape.{Shape, ordinary, call, return, forbidden, nothing, shapeOf, sizeOf}
 use Rattle.rules.specs.Marks.{claimAt, imageFrom}
 

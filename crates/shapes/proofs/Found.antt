@@ -1,10 +1,9 @@
 -- The shape and the size of an instruction, by what is found at its first two bytes.
 -- Assumes nothing.
 use mathlib.Core.Path.{_≡_, sym}
-use Prim.Native.Nat.{ℕ, _+_, _<_}
-use borrow.Author.Tests.{eq-eqb, ne-eqb}
-use Rattle.opcodes.proofs.Rule.{below}
-use Rattle.opcodes.proofs.Says.{Said, there-says, nowhere-says}
+use Prim.Native.Nat.{ℕ, _+_}
+use borrow.Author.Tests.{ne-eqb}
+use Rattle.opcodes.proofs.Says.{Said, there-says, nowhere-says, none-there}
 use Rattle.opcodes.specs.Tables.{costAt, lengthAt}
 use Rattle.opcodes.specs.Decode.{Bytes, instructionOf, decodeAt, foundOf}
 use Rattle.opcodes.specs.declared.decode.Found.the-variants as Found
@@ -12,8 +11,8 @@ use Rattle.rules.specs.Shape.{nothing, shapeIn, shapeOf, sizeOf}
 
 module _ (f : Bytes) where
   pub nowhere-shape : foundOf (f 0) (f 1) ≡ Found.Nothing → (a : ℕ) → shapeOf f a ≡ nothing
-  unfolding shapeOf decodeAt
-  nowhere-shape h a = simp (eq-eqb _ _ (nowhere-says _ _ h))
+  unfolding shapeOf
+  nowhere-shape h a = simp (none-there _ f (nowhere-says _ _ h))
 
   pub nowhere-size : foundOf (f 0) (f 1) ≡ Found.Nothing → sizeOf f ≡ 0
   unfolding sizeOf
@@ -22,9 +21,6 @@ module _ (f : Bytes) where
   module _ {p s e : ℕ} (h : foundOf (f 0) (f 1) ≡ Found.At p s e) where
     says : Said (f 0) (f 1) p s e
     says = there-says _ _ p s e h
-
-    pub in-tables : p < 1024
-    in-tables = below p (says .3)
 
     pub entry : e ≡ costAt p
     entry = sym (says .2)

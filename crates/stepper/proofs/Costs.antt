@@ -8,11 +8,11 @@ use Prim.Native.Nat.{ℕ, _≤_}
 use native.Mathlib.Omega.{arith}
 use lib.Dec.{eqb}
 use lib.ListN.{length}
-use borrow.Author.Tests.{eq-eqb}
 use Rattle.registers.specs.declared.Cycles.{Cycles}
 use Rattle.registers.specs.declared.Registers.{Registers}
 use Rattle.opcodes.proofs.Rule.{ruled-at-all}
-use Rattle.opcodes.specs.Tables.{costAt, lengthAt, cyclesAt}
+use Rattle.opcodes.proofs.Says.{none-there}
+use Rattle.opcodes.specs.Tables.{lengthAt, cyclesAt}
 use Rattle.opcodes.specs.Decode.{Bytes, placeIn, decodeAt}
 use Rattle.opcodes.specs.Form.{formOf, waits}
 use Rattle.opcodes.specs.declared.instruction.Decoded.{Decoded}
@@ -22,10 +22,6 @@ use Rattle.registers.specs.Registers.{withPc}
 use Rattle.stepper.specs.Answer.{done}
 use Rattle.instructions.specs.Effect.{Effect, effectOf}
 use Rattle.stepper.specs.Step.{fetched, executed, carriedOut, didIf, didOf, after, stepOf}
-
-none-there : (p : ℕ) (f : Bytes) → costAt p ≡ 0 → decodeAt p f ≡ Nothing
-unfolding decodeAt
-none-there p f z = simp (eq-eqb _ _ z)
 
 module _ (r : Registers) (m : List ℕ) (q : Registers) (k : Cycles) where
   by-wait : (b : Bool) (e : Effect) (c : ℕ) → after (executed b (r .pc) e c) m .answer ≡ done q k → c ≡ k .0

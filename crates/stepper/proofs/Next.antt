@@ -14,9 +14,9 @@ use Rattle.registers.specs.declared.Cycles.{Cycles}
 use Rattle.registers.specs.declared.Registers.{Registers}
 use Rattle.memory.specs.Memory.{byteAt, applied}
 use Rattle.opcodes.proofs.Fits.{fitting}
-use Rattle.opcodes.proofs.Rule.{below, entry-word}
-use Rattle.opcodes.proofs.Says.{Said, there-says, nowhere-says}
-use Rattle.opcodes.specs.Tables.{costAt, actionAt, modeAt}
+use Rattle.opcodes.proofs.Rule.{entry-word}
+use Rattle.opcodes.proofs.Says.{Said, there-says, nowhere-says, none-there}
+use Rattle.opcodes.specs.Tables.{actionAt, modeAt}
 use Rattle.opcodes.specs.Numbers.{actionOf, modeOf}
 use Rattle.opcodes.specs.Fits.{fits}
 use Rattle.opcodes.specs.Decode.{placeOf, foundOf, instructionOf, placeIn, decodeAt}
@@ -24,7 +24,7 @@ use Rattle.opcodes.specs.Form.{formOf, waits}
 use Rattle.opcodes.specs.declared.decode.Found.{Found}
 use Rattle.opcodes.specs.declared.decode.Found.the-variants as Found
 use Rattle.opcodes.specs.declared.instruction.Operand.{Operand}
-use Rattle.opcodes.specs.declared.instruction.Decoded.the-variants.{Instruction, Nothing}
+use Rattle.opcodes.specs.declared.instruction.Decoded.the-variants.{Instruction}
 use Rattle.instructions.specs.Effect.{Effect, effectOf, Executed}
 use Rattle.instructions.specs.Sited.{operandFrom}
 use Rattle.stepper.specs.Answer.{done, refused}
@@ -42,14 +42,10 @@ foundAt r m = foundOf (byteAt m (r .pc)) (byteAt m (plus (r .pc) 1))
 place : (r : Registers) (m : List ℕ) → r .pc < 65536 → placeIn (fetched m (r .pc)) ≡ placeOf (byteAt m (r .pc)) (byteAt m (plus (r .pc) 1))
 place r m low = ap (λ (a : ℕ). placeOf (byteAt m a) (byteAt m (plus (r .pc) 1))) (plus-zero (r .pc) low)
 
-none-there : (r : Registers) (m : List ℕ) (p : ℕ) → costAt p ≡ 0 → decodeAt p (fetched m (r .pc)) ≡ Nothing
-unfolding decodeAt
-none-there r m p z = simp (eq-eqb _ _ z)
-
 pub nowhere : (r : Registers) (m : List ℕ) → length m ≡ 65536 → r .pc < 65536 → foundAt r m ≡ Found.Nothing
     → stepOf r m ≡ record { answer = refused 22 (r .pc); memory = m }
 unfolding stepOf didOf carriedOut
-nowhere r m h low n = simp (eq-eqb _ _ h, place r m low, none-there r m _ (nowhere-says _ _ n))
+nowhere r m h low n = simp (eq-eqb _ _ h, place r m low, none-there _ (fetched m (r .pc)) (nowhere-says _ _ n))
 
 -- at PC an instruction is found: its place p, the size s of its opcode and its entry e
 pub record Here (r : Registers) (m : List ℕ) (p s e : ℕ) : Type 0 where
@@ -60,9 +56,6 @@ pub record Here (r : Registers) (m : List ℕ) (p s e : ℕ) : Type 0 where
 module _ {r : Registers} {m : List ℕ} {p s e : ℕ} (h : Here r m p s e) where
   says : Said (byteAt m (r .pc)) (byteAt m (plus (r .pc) 1)) p s e
   says = there-says _ _ p s e (h .found)
-
-  pub in-tables : p < 1024
-  in-tables = below p (says .3)
 
   -- the length fits in a word
   pub length-word : e / 256 < 65536

@@ -1,7 +1,7 @@
 -- Which numbers stand for WAI, STOP and TEST: 135 and all after it. One test over the list of the actions.
 -- Assumes nothing.
 use mathlib.Core.Path.{_≡_, refl, sym, ap, _∙_}
-use mathlib.Core.Bool.{Bool, true, false}
+use mathlib.Core.Bool.{Bool, true, false, cond}
 use mathlib.Core.List.{List, [], _∷_, _++_, map}
 use Prim.Native.Nat.{ℕ, zero, suc, _<_, _%_}
 use native.Mathlib.Omega.{arith}
@@ -9,7 +9,6 @@ use lib.Dec.{eqb, leb, ltb, leb·zero, leb·suc-zero, leb·suc-suc}
 use lib.ListN.{getD, replicate, List·getD-map}
 use borrow.Author.Tests.{ltb-false}
 use Rattle.opcodes.specs.Numbers.{allActions, actionOf}
-use Rattle.opcodes.specs.Decode.{pick}
 use Rattle.opcodes.specs.Form.{formOf, waits, targetIn}
 use Rattle.opcodes.specs.declared.instruction.Action.{Action}
 use Rattle.opcodes.specs.declared.instruction.Action.the-variants.{Inherent, Unary, TstAccumulator, Binary, TstMemory, LoadWord, Addd, Subd, CompareWord, StoreByte, StoreWord, Modify, Bset, Bclr, Brset, Brclr, Branch, Jmp, Call, Rts, PushByte, PushWord, PullByte, PullWord, Des, Ins, SetStack, Swi, Rti, Wai, Stop, Test}
@@ -21,7 +20,7 @@ use Rattle.stepper.specs.Advance.{Waiting}
 abbrev waitsBare : Action → Bool
 waitsBare a = waits (formOf a Operand.Inherent 0)
 
-branch-on : (always never : Bool) (t : ℕ) → waits (pick always (Jumps (Fixed t)) (pick never Computes (Branches t))) ≡ false
+branch-on : (always never : Bool) (t : ℕ) → waits (cond always (Jumps (Fixed t)) (cond never Computes (Branches t))) ≡ false
 branch-on true b t = refl
 branch-on false true t = refl
 branch-on false false t = refl

@@ -1,8 +1,8 @@
--- The next instruction, wherever it stands, and the run from there: what the loop that a step and a run share comes to.
+-- The next instruction, wherever it stands, and the run from there: what the loop that a step and a run share comes to. An inner matter of the code.
 -- Assumes nothing.
 use Prim.Native.Nat.{ℕ}
 use mathlib.Core.Path.{_≡_}
-use mathlib.Core.Bool.{Bool, true, false}
+use mathlib.Core.Bool.{Bool, false, cond}
 use mathlib.Core.List.{List}
 use lib.Dec.{eqb}
 use Rattle.registers.specs.declared.Registers.{Registers}
@@ -29,11 +29,7 @@ abbrev pub goOf : Registers → List ℕ → ℕ → AfterRun
 goOf r m b = goFrom b b 0 r m
 
 -- the answer of a step by that of the loop: where no cycle is spent the instruction itself was refused
-abbrev pub unlessSpent : Bool → Answer → Answer → Answer
-unlessSpent true a b = a
-unlessSpent false a b = b
-
 abbrev pub firstOf : RunAnswer → Answer
 firstOf (home r k) = done r k
 firstOf (spent r k) = done r k
-firstOf (runRefused n p r k) = unlessSpent (eqb (k .0) 0) (refused n p) (done r k)
+firstOf (runRefused n p r k) = cond (eqb (k .0) 0) (refused n p) (done r k)

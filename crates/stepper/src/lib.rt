@@ -1,5 +1,5 @@
 // The stepper: one instruction, and a run of instructions within a cycle budget. `step` and `run` are the interface, and take any registers
-// and any memory; the modules below are inner rooms.
+// and any memory; `answer` has what they answer, and `advance` is an inner room.
 ghost use mathlib.Core.Path.{_≡_};
 ghost use Rattle.stepper.specs.Answer.{answerOf, ranOf};
 ghost use Rattle.stepper.specs.Step.{stepOf};

@@ -1,7 +1,7 @@
 -- Decimal digits: how many there are, and that dividing by 10 again and again yields them from the last to the first.
 -- Assumes nothing.
 use mathlib.Core.Path.{_≡_, refl}
-use mathlib.Core.Bool.{Bool, true, false}
+use mathlib.Core.Bool.{Bool, true, false, cond as pick}
 use mathlib.Core.List.{List, [], _∷_}
 use Prim.Native.Nat.{ℕ, zero, suc, _+_, _/_, _%_, _^_, _≤_, _<_}
 use native.Mathlib.Nat.{mod-eq-of-lt, pow-suc, div-lt-iff-lt-mul}
@@ -9,7 +9,6 @@ use native.Mathlib.Omega.{arith}
 use borrow.Author.Tests.{ltb-true, lt-ltb, le-ltb}
 use lib.Dec.{ltb}
 use lib.ListN.{length}
-use Rattle.opcodes.specs.Decode.{pick}
 use Rattle.text.specs.Number.{decimalBefore, decimalOf}
 
 -- how many digits n has, at most `most`

@@ -1,7 +1,7 @@
 -- The listing by what is found at the first two bytes, and that it depends on five bytes alone.
 -- Assumes nothing.
 use mathlib.Core.Path.{_≡_, refl, sym}
-use mathlib.Core.Bool.{Bool, true, false}
+use mathlib.Core.Bool.{Bool, true, false, cond as pick}
 use mathlib.Core.Logic.{_⊎_, inl, inr}
 use Prim.Native.Nat.{ℕ, _<_}
 use lib.Dec.{eqb, ltb}
@@ -9,7 +9,7 @@ use borrow.Author.Tests.{eq-eqb, ne-eqb}
 use Rattle.opcodes.proofs.Rule.{below, entry-word}
 use Rattle.opcodes.proofs.Says.{Said, there-says, nowhere-says}
 use Rattle.opcodes.specs.Tables.{costAt}
-use Rattle.opcodes.specs.Decode.{Bytes, pick, placeIn, opcodeSize, foundOf}
+use Rattle.opcodes.specs.Decode.{Bytes, placeIn, opcodeSize, foundOf}
 use Rattle.opcodes.specs.declared.decode.Found.the-variants as Found
 use Rattle.text.specs.declared.listing.Listing.{Listing}
 use Rattle.text.specs.Listing.{bytesText, noListing, listingAt, listingOf, five}

@@ -2,12 +2,12 @@
 -- Assumes nothing.
 use Prim.Native.Nat.{ℕ, _+_}
 use mathlib.Core.List.{List, [], _∷_, _++_}
-use mathlib.Core.Bool.{Bool}
+use mathlib.Core.Bool.{Bool, cond as pick}
 use lib.Dec.{eqb}
 use lib.ListN.{take, getD}
 use Rattle.registers.specs.Word.{plus}
 use Rattle.opcodes.specs.Tables.{costAt, lengthAt, actionAt, modeAt}
-use Rattle.opcodes.specs.Decode.{Bytes, pick, opcodeSize, placeIn}
+use Rattle.opcodes.specs.Decode.{Bytes, opcodeSize, placeIn}
 use Rattle.text.specs.declared.listing.Listing.{Listing}
 use Rattle.text.specs.Text.{ascii, padded}
 use Rattle.text.specs.Number.{byteHex}

@@ -1,9 +1,9 @@
 -- Numbers as text: a byte in two hexadecimal digits and a word in four, in upper case; decimal digits without leading zeros.
 -- Assumes nothing.
 use Prim.Native.Nat.{ℕ, zero, suc, _+_, _/_, _%_}
+use mathlib.Core.Bool.{cond as pick}
 use mathlib.Core.List.{List, [], _∷_}
 use lib.Dec.{ltb}
-use Rattle.opcodes.specs.Decode.{pick}
 
 -- 0 to 9 are $30 to $39, A to F are $41 to $46
 abbrev pub glyphOf : ℕ → ℕ

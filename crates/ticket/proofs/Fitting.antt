@@ -10,13 +10,13 @@ use Rattle.commands.specs.declared.command.Kind.the-variants.{Code, Data, Stack
 use Rattle.commands.specs.declared.command.Window.{Window}
 use Rattle.commands.specs.declared.command.Command.{Command}
 use Rattle.commands.specs.declared.command.Command.the-variants as Command
+use Rattle.commands.specs.Every.{none, more}
 use Rattle.commands.specs.Fits.{Fits}
 use Rattle.commands.specs.Fits.FitsRow.{none as no-operand, more as operand}
 use Rattle.ticket.specs.declared.fields.Mark.{Mark}
 use Rattle.ticket.specs.Fields.{Fields, blankMark, placeOf, listed}
 use Rattle.ticket.specs.Write.{headerCommands, commandsAt, markCommands, commandsOf}
 use Rattle.ticket.specs.RoundTrip.{AllFit, FitsFields}
-use Rattle.ticket.specs.RoundTrip.AllFit.{none, more}
 use Rattle.ticket.proofs.Snoc.{commands-snoc}
 
 pub fits-window : (k : Kind) (w : Window) → w .start < 65536 → w .length < 65536 → Fits (Command.Window k w)

@@ -1,7 +1,7 @@
 -- Commands one after another with no cause against any: those that the writer's checks admit.
 -- Assumes nothing.
 use mathlib.Core.Path.{_≡_, refl, sym, _∙_}
-use mathlib.Core.Bool.{Bool, true, false}
+use mathlib.Core.Bool.{Bool, true, false, cond}
 use mathlib.Core.List.{List, [], _∷_}
 use lib.Dec.{eqb}
 use borrow.Author.Tests.{eqb-true, eq-eqb}
@@ -9,7 +9,6 @@ use Rattle.commands.specs.declared.command.Command.{Command}
 use Rattle.commands.specs.declared.command.Refusal.{Refusal}
 use Rattle.commands.specs.declared.prefix.Prefix.{Prefix}
 use Rattle.commands.specs.declared.admit.Admitted.the-variants.{Refused, Next}
-use Rattle.commands.specs.Bytes.{pick}
 use Rattle.commands.specs.Prefix.{afterOf}
 use Rattle.commands.specs.Cause.{causeOf}
 use Rattle.commands.specs.Admit.{admitOf}
@@ -27,7 +26,7 @@ free-admitted p [] f = (p, refl)
 free-admitted p (c ∷ cs) f = rw (eq-eqb _ _ (f .0)) (free-admitted (afterOf p c) cs (f .1))
 
 module _ (p q : Prefix) (c : Command) (cs : List Command) (rest : allThen (Next (afterOf p c)) cs ≡ Next q → Free (afterOf p c) cs) where
-  by-cause : (r : Refusal) (b : Bool) → eqb (causeOf p c) 0 ≡ b → allThen (pick b (Next (afterOf p c)) (Refused r)) cs ≡ Next q → Free p (c ∷ cs)
+  by-cause : (r : Refusal) (b : Bool) → eqb (causeOf p c) 0 ≡ b → allThen (cond b (Next (afterOf p c)) (Refused r)) cs ≡ Next q → Free p (c ∷ cs)
   by-cause r true e n = (eqb-true _ _ e, rest n)
   by-cause r false e n = absurd (not-next (sym (refused-stays r cs) ∙ n))
 

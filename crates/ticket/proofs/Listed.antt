@@ -10,7 +10,7 @@ use borrow.Author.Tests.{lt-ltb}
 use Rattle.ticket.specs.declared.fields.Mark.{Mark}
 use Rattle.ticket.specs.Fields.{Fields, blankMark, listed, ticketOf, fieldsOf}
 
-listed-take : (ms : List Mark) (n : ℕ) → n ≤ 4096 → n ≤ length ms → listed ms n ≡ take n ms
+pub listed-take : (ms : List Mark) (n : ℕ) → n ≤ 4096 → n ≤ length ms → listed ms n ≡ take n ms
 listed-take ms zero few room = refl
 listed-take ms (suc n) few room =
     rw (lt-ltb n 4096 few, listed-take ms n (omega arith) (omega arith), take-suc ms n blankMark room)

@@ -12,6 +12,7 @@ use Rattle.commands.specs.declared.command.Command.the-variants as Command
 use Rattle.commands.specs.declared.command.Refusal.{Refusal}
 use Rattle.commands.specs.declared.prefix.Prefix.{Prefix}
 use Rattle.commands.specs.declared.admit.Admitted.the-variants.{Refused, Next}
+use Rattle.commands.specs.Every.{none, more}
 use Rattle.commands.specs.Bytes.{encodeOf}
 use Rattle.commands.specs.Prefix.{startOf}
 use Rattle.commands.proofs.Coding.{length-encode, width-positive}
@@ -21,7 +22,7 @@ use Rattle.ticket.specs.declared.fields.Mark.{Mark}
 use Rattle.ticket.specs.Fields.{Fields, marksWith}
 use Rattle.ticket.specs.Read.{readFrom, readOf}
 use Rattle.ticket.specs.Write.{nameCommands, markCommands, commandsOf, encodeAll, bytesOf, allThen, checkOf}
-use Rattle.ticket.specs.RoundTrip.{AllFit, none, more, FitsFields, answered}
+use Rattle.ticket.specs.RoundTrip.{AllFit, FitsFields, answered}
 use Rattle.ticket.proofs.Stage.{ends, stage-after}
 use Rattle.ticket.proofs.Step.{step}
 use Rattle.ticket.proofs.Kept.{header-after, headerWith, keptOf, kept}

@@ -3,7 +3,7 @@
 use Prim.Native.Nat.{ℕ, _+_, _≤_, _<_}
 use mathlib.Core.Path.{_≡_, refl}
 use mathlib.Core.Logic.{_↔_}
-use mathlib.Core.Bool.{true, false}
+use mathlib.Core.Bool.{true, false, and-eq-true-iff}
 use mathlib.Core.List.{List, [], _∷_, _++_}
 use native.Mathlib.Omega.{arith}
 use Rattle.commands.specs.declared.command.Claim.{Claim}
@@ -15,18 +15,19 @@ use Rattle.commands.specs.declared.admit.Admitted.the-variants.{Next}
 use Rattle.commands.specs.Number.{digits}
 use Rattle.commands.specs.Prefix.{startOf, markedOf, afterOf}
 use Rattle.commands.specs.Cause.{inOrder, rangesHold, edgesHold, separate, inside, causeOf}
-use Rattle.commands.proofs.Causes.{both, allowed, allow}
+use Rattle.commands.proofs.Causes.{allowed, allow}
+use Rattle.commands.proofs.Every.{first}
 use Rattle.ticket.specs.declared.fields.Name.{Name}
 use Rattle.ticket.specs.declared.fields.Name.the-variants.{Absent, Text}
 use Rattle.ticket.specs.declared.fields.Mark.{Mark}
 use Rattle.ticket.specs.Fields.{Fields}
 use Rattle.ticket.specs.Write.{headerCommands, nameCommands, markCommands, commandsOf, checkOf}
-use Rattle.ticket.specs.RoundTrip.{Rising}
-use Rattle.ticket.specs.Rules.{Between, Every, In, HeaderRules, ClaimRules, NameRule, absent, text, MarkRules, Readable}
-use Rattle.ticket.proofs.Says.{true-says, and-says, leb-says, ltb-says, eqb-says, positive-says, after-says, printable-says, apart-says}
+use Rattle.commands.specs.Every.{Every}
+use Rattle.ticket.specs.Rules.{Between, In, HeaderRules, ClaimRules, NameRule, absent, text, MarkRules, Rising, Readable}
+use Rattle.ticket.proofs.Says.{true-says, leb-says, ltb-says, eqb-says, positive-says, after-says, printable-says, apart-says}
 use Rattle.ticket.proofs.Free.{Free, free-admitted, admitted-free}
 
-ruleset tests = (true-says, and-says, leb-says, ltb-says, eqb-says, positive-says, after-says, apart-says)
+ruleset tests = (true-says, and-eq-true-iff, leb-says, ltb-says, eqb-says, positive-says, after-says, apart-says)
 
 cause-says : (p : Prefix) (c : Command) → (causeOf p c ≡ 0) ↔ ((inOrder p c ≡ true) × (rangesHold c ≡ true) × (edgesHold c ≡ true) × (separate (p .header) c ≡ true) × (inside (p .header) c ≡ true))
 cause-says p c = (
@@ -54,7 +55,7 @@ module _ (p : Prefix) (e : p .stage ≡ 4) where
   text-says : (a t : ℕ) → (causeOf (markedOf p a) (Command.Name a t) ≡ 0) ↔ Every (Between 0x20 0x7e) (digits 8 t)
   unfolding rangesHold
   text-says a t = (
-    λ c. printable-says (digits 8 t) .0 (both _ true (allowed (markedOf p a) (Command.Name a t) c .ranged) .0),
+    λ c. printable-says (digits 8 t) .0 (and-eq-true-iff _ true .0 (allowed (markedOf p a) (Command.Name a t) c .ranged) .0),
     λ r.
         allow (markedOf p a) (Command.Name a t)
         (record {
@@ -84,9 +85,6 @@ module _ (p : Prefix) (e : p .stage ≡ 4) (a : ℕ) (cs ds : List Command) (R :
   )
 
 -- ---- the marks
-
-first : {h : Header} {m : Mark} {ms : List Mark} → Every (MarkRules h) (m ∷ ms) → MarkRules h m × Every (MarkRules h) ms
-first (Every.more r s) = (r, s)
 
 -- an address is under the first of some marks
 abbrev Under : ℕ → List Mark → Type 0

@@ -3,7 +3,7 @@
 use Prim.Native.Nat.{ℕ, _≤_, _<_, max}
 use mathlib.Core.Path.{_≡_, refl}
 use mathlib.Core.Logic.{_↔_}
-use mathlib.Core.Bool.{Bool, true, false, not, _&&_, _||_, true≢false, false≢true, not-eq-not}
+use mathlib.Core.Bool.{Bool, true, false, not, _||_, true≢false, false≢true, not-eq-not, and-eq-true-iff}
 use mathlib.Core.List.{List, [], _∷_}
 use native.Mathlib.Omega.{arith}
 use lib.Dec.{eqb, ltb, leb}
@@ -11,15 +11,12 @@ use borrow.Author.Tests.{ltb-true, ltb-false, leb-true, leb-false, not-true, eqb
 use Rattle.commands.specs.declared.command.Window.{Window}
 use Rattle.commands.specs.Rows.{printable}
 use Rattle.commands.specs.Cause.{pastOf, apart}
-use Rattle.commands.proofs.Causes.{both}
-use Rattle.ticket.specs.Rules.{Between, Every, In, Apart}
-use Rattle.ticket.specs.Rules.Every.{none, more}
+use Rattle.commands.specs.Every.{Every}
+use Rattle.ticket.specs.Rules.{Between, In, Apart}
+use Rattle.commands.specs.Every.Every.{none, more}
 
 pub true-says : _↔_ {0, 0} (true ≡ true) Unit
 true-says = (λ e. tt, λ u. refl)
-
-pub and-says : (a b : Bool) → (a && b ≡ true) ↔ ((a ≡ true) × (b ≡ true))
-and-says a b = (both a b, λ e. rw (e .0) (e .1))
 
 pub leb-says : (a b : ℕ) → (leb a b ≡ true) ↔ (a ≤ b)
 leb-says a b = (leb-true a b, le-leb a b)
@@ -56,7 +53,7 @@ printed (more h r) = rw (le-leb _ _ (h .0), le-leb _ _ (h .1)) (printed r)
 pub printable-says : (s : List ℕ) → (printable s ≡ true) ↔ Every (Between 0x20 0x7e) s
 printable-says [] = (λ e. none, λ r. refl)
 printable-says (b ∷ s) = (
-  λ e. let h = simp (and-says, leb-says) at e in more (h .0) (printable-says s .0 (h .1)),
+  λ e. let h = simp (and-eq-true-iff, leb-says) at e in more (h .0) (printable-says s .0 (h .1)),
   printed,
 )
 

@@ -3,7 +3,7 @@
 use Prim.Native.Nat.{ℕ, suc, _+_, _-_, _≤_, _<_}
 use native.Mathlib.Omega.{arith}
 use mathlib.Core.Path.{_≡_}
-use mathlib.Core.Bool.{true}
+use mathlib.Core.Bool.{true, and-eq-true-iff}
 use mathlib.Core.List.{List, [], _∷_, _++_}
 use lib.Dec.{eqb}
 use lib.ListN.{length, getD, set, replicate, length-append}
@@ -13,7 +13,6 @@ use Rattle.commands.specs.declared.command.Command.the-variants as Command
 use Rattle.commands.specs.declared.prefix.Prefix.{Prefix}
 use Rattle.commands.specs.Cause.{inOrder}
 use Rattle.commands.specs.Prefix.{afterOf}
-use Rattle.commands.proofs.Causes.{both}
 use Rattle.ticket.specs.declared.fields.Mark.{Mark}
 use Rattle.ticket.specs.Fields.{blankMark, named, enteredOf, marksWith, inFileOrder}
 use Rattle.ticket.proofs.SoFar.{Consistent, length-ordered}
@@ -62,5 +61,5 @@ module _ (n : ℕ) (d : Mark) (p : Prefix) where
       let i : p .count + 1 - 1 ≡ length (inFileOrder ms) = omega (arith, length-ordered ms) in
       rw i (set-next n (inFileOrder ms) _ (omega (arith, length-ordered ms)))
   entered ms k (Command.Name a t) o l =
-      entered-name ms k a t (both (p .nameable) _ (both (eqb (p .stage) 4) _ o .1) .0)
+      entered-name ms k a t (and-eq-true-iff (p .nameable) _ .0 (and-eq-true-iff (eqb (p .stage) 4) _ .0 o .1) .0)
   entered ms k Command.End o l = set-getD (filled n (inFileOrder ms)) _ d

@@ -1,7 +1,7 @@
 -- The commands that a prefix and its marks stand for, and what one command more makes of them.
 -- Assumes nothing.
 use mathlib.Core.Path.{_≡_, refl}
-use mathlib.Core.Bool.{true, false}
+use mathlib.Core.Bool.{true, false, cond, and-eq-true-iff}
 use Prim.Native.Nat.{ℕ, _<_}
 use native.Mathlib.Omega.{arith}
 use mathlib.Core.List.{List, [], _∷_, _++_, append-assoc, append-nil}
@@ -15,11 +15,10 @@ use Rattle.commands.specs.declared.command.Kind.the-variants.{Code, Data, Stack
 use Rattle.commands.specs.declared.command.Window.{Window}
 use Rattle.commands.specs.declared.prefix.Header.{Header}
 use Rattle.commands.specs.declared.prefix.Prefix.{Prefix}
-use Rattle.commands.specs.Bytes.{pick}
 use Rattle.commands.specs.Cause.{turnOf, inOrder, causeOf}
 use Rattle.commands.specs.Prefix.{startOf, withWindow, stagedOf, namedOf, afterOf, Sound}
 use Rattle.ticket.proofs.Snoc.{commands-snoc}
-use Rattle.commands.proofs.Causes.{both, allowed}
+use Rattle.commands.proofs.Causes.{allowed}
 use Rattle.commands.proofs.Sound.{sound-start, sound-after}
 use Rattle.ticket.specs.declared.fields.Mark.{Mark}
 use Rattle.ticket.specs.declared.fields.Name.{Name}
@@ -31,7 +30,7 @@ use Rattle.ticket.specs.Write.{headerCommands, markCommands}
 abbrev pub soFar : Prefix → List Mark → List Command
 soFar p ms =
     take (p .stage) (headerCommands (p .header))
-    ++ (markCommands (inFileOrder ms) ++ pick (eqb (p .stage) 5) (Command.End ∷ []) [])
+    ++ (markCommands (inFileOrder ms) ++ cond (eqb (p .stage) 5) (Command.End ∷ []) [])
 
 -- ---- what a prefix says of its marks, the latest first
 
@@ -79,11 +78,11 @@ module _ (p : Prefix) where
       let e = eqb-true (p .stage) 3 o in
       rw (no-marks ms k (omega arith), e)
   said-step ms k (Command.Mark a l) o =
-      let e = eqb-true (p .stage) 4 (both _ _ o .0) in
+      let e = eqb-true (p .stage) 4 (and-eq-true-iff _ _ .0 o .0) in
       simp (e, commands-snoc, append-assoc, append-nil)
   said-step ms k (Command.Name a t) o =
-      let b = both (eqb (p .stage) 4) _ o in
-      let n = both (p .nameable) _ (b .1) in
+      let b = and-eq-true-iff (eqb (p .stage) 4) _ .0 o in
+      let n = and-eq-true-iff (p .nameable) _ .0 (b .1) in
       said-name ms k a t (eqb-true _ _ (b .0)) (n .0) (eqb-true _ _ (n .1))
   said-step ms k Command.End o =
       let e = eqb-true (p .stage) 4 o in

@@ -1,7 +1,7 @@
 -- An admitted command is in order, and leaves the stage 5 only if it is the end.
 -- Assumes nothing.
 use mathlib.Core.Path.{_≡_, refl}
-use mathlib.Core.Bool.{Bool, true, false}
+use mathlib.Core.Bool.{Bool, true, false, cond, and-eq-true-iff}
 use lib.Dec.{eqb}
 use borrow.Author.Tests.{eqb-true}
 use Rattle.commands.specs.declared.command.Kind.the-variants.{Code, Data, Stack}
@@ -11,15 +11,14 @@ use Rattle.commands.specs.declared.command.Refusal.{Refusal}
 use Rattle.commands.specs.declared.prefix.Prefix.{Prefix}
 use Rattle.commands.specs.declared.admit.Admitted.{Admitted}
 use Rattle.commands.specs.declared.admit.Admitted.the-variants.{Refused, Next}
-use Rattle.commands.specs.Bytes.{pick}
 use Rattle.commands.specs.Prefix.{afterOf}
 use Rattle.commands.specs.Cause.{inOrder, causeOf}
 use Rattle.commands.specs.Admit.{admitOf}
-use Rattle.commands.proofs.Causes.{both, allowed}
+use Rattle.commands.proofs.Causes.{allowed}
 
 -- what holds of every refusal, and of what a command in order leaves, holds of what the command's admission gives
 module _ (p : Prefix) (c : Command) (P : Admitted → Type 0) (refuses : (r : Refusal) → P (Refused r)) (goes : inOrder p c ≡ true → P (Next (afterOf p c))) where
-  by-cause : (r : Refusal) (b : Bool) → eqb (causeOf p c) 0 ≡ b → P (pick b (Next (afterOf p c)) (Refused r))
+  by-cause : (r : Refusal) (b : Bool) → eqb (causeOf p c) 0 ≡ b → P (cond b (Next (afterOf p c)) (Refused r))
   by-cause r true e = goes (allowed p c (eqb-true _ _ e) .ordered)
   by-cause r false e = refuses r
 
@@ -41,6 +40,6 @@ stage-after p (Command.Window Code w) h = rw (eqb-true (p .stage) 0 h)
 stage-after p (Command.Window Data w) h = rw (eqb-true (p .stage) 1 h)
 stage-after p (Command.Window Stack w) h = rw (eqb-true (p .stage) 2 h)
 stage-after p (Command.Entry a l) h = rw (eqb-true (p .stage) 3 h)
-stage-after p (Command.Mark a k) h = rw (eqb-true (p .stage) 4 (both _ _ h .0))
-stage-after p (Command.Name a t) h = rw (eqb-true (p .stage) 4 (both _ _ h .0))
+stage-after p (Command.Mark a k) h = rw (eqb-true (p .stage) 4 (and-eq-true-iff _ _ .0 h .0))
+stage-after p (Command.Name a t) h = rw (eqb-true (p .stage) 4 (and-eq-true-iff _ _ .0 h .0))
 stage-after p Command.End h = rw (eqb-true (p .stage) 4 h)

@@ -2,7 +2,7 @@
 -- Assumes nothing.
 use Prim.Native.Nat.{ℕ}
 use mathlib.Core.Path.{_≡_, refl}
-use mathlib.Core.Bool.{Bool, true, false}
+use mathlib.Core.Bool.{Bool, true, false, cond}
 use mathlib.Core.List.{List}
 use lib.Dec.{eqb}
 use borrow.Author.Tests.{eqb-true}
@@ -13,7 +13,7 @@ use Rattle.commands.specs.declared.command.Decoded.the-variants.{Unknown, Cut, 
 use Rattle.commands.specs.declared.prefix.Prefix.{Prefix}
 use Rattle.commands.specs.declared.admit.Admitted.the-variants.{Refused, Next}
 use Rattle.commands.specs.Admit.{admitOf}
-use Rattle.commands.specs.Bytes.{pick, decodeOf}
+use Rattle.commands.specs.Bytes.{decodeOf}
 use Rattle.commands.specs.Cause.{causeOf}
 use Rattle.commands.specs.Prefix.{afterOf}
 use Rattle.ticket.specs.declared.reader.Turn.the-variants as Turn
@@ -26,7 +26,7 @@ pub record Turned (s : List ℕ) (p q : Prefix) (c : Command) : Type 0 where
 
 module _ (s : List ℕ) (p q : Prefix) (c : Command) where
   by-cause : (d : Command) (r : Refusal) → decodeOf s ≡ Found d → (b : Bool) → eqb (causeOf p d) 0 ≡ b
-      → admittedAs (pick b (Next (afterOf p d)) (Refused r)) d ≡ Turn.Next q c → Turned s p q c
+      → admittedAs (cond b (Next (afterOf p d)) (Refused r)) d ≡ Turn.Next q c → Turned s p q c
   by-cause d r f true e t =
       let z = eqb-true (causeOf p d) 0 e in
       record { found = cc; free = cc; next = cc }

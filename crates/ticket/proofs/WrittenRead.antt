@@ -12,6 +12,7 @@ use Rattle.commands.specs.declared.prefix.Prefix.{Prefix}
 use Rattle.commands.specs.declared.admit.Admitted.the-variants.{Next}
 use Rattle.commands.specs.Prefix.{startOf}
 use Rattle.commands.specs.Bytes.{widthOf}
+use Rattle.commands.specs.Every.{none, more}
 use Rattle.commands.specs.Number.{AllBytes}
 use Rattle.commands.proofs.Coding.{encode-decode, fits-decoded}
 use Rattle.commands.proofs.Digits.{bytes-drop}
@@ -21,7 +22,6 @@ use Rattle.ticket.specs.Fields.{Fields, read, ticketOf, fieldsOf}
 use Rattle.ticket.specs.Read.{readOf}
 use Rattle.ticket.specs.Write.{commandsOf, encodeAll, bytesOf, checkOf, writeOf, outputOf}
 use Rattle.ticket.specs.RoundTrip.{AllFit, FitsFields}
-use Rattle.ticket.specs.RoundTrip.AllFit.{none, more}
 use Rattle.ticket.proofs.Listed.{fields-ticket}
 use Rattle.ticket.proofs.SoFar.{soFar, Consistent, consistent-start, consistent-next, said-next, length-ordered}
 use Rattle.ticket.proofs.Free.{Free, free-admitted}

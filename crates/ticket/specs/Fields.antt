@@ -1,6 +1,7 @@
 -- The fields of a ticket as a header and a list of marks, and as the code's array holds them (document 01, "The ticket").
 -- Assumes nothing.
 use Prim.Native.Nat.{ℕ, zero, suc, _-_}
+use mathlib.Core.Bool.{cond}
 use mathlib.Core.List.{List, [], _∷_, _++_}
 use lib.Dec.{ltb}
 use lib.ListN.{length, getD, replicate}
@@ -9,7 +10,6 @@ use Rattle.commands.specs.declared.command.Command.{Command}
 use Rattle.commands.specs.declared.command.Command.the-variants as Command
 use Rattle.commands.specs.declared.command.Refusal.{Refusal}
 use Rattle.commands.specs.declared.prefix.Header.{Header}
-use Rattle.commands.specs.Bytes.{pick}
 use Rattle.commands.specs.Prefix.{blankHeader}
 use Rattle.ticket.specs.declared.fields.Name.{Name}
 use Rattle.ticket.specs.declared.fields.Name.the-variants.{Absent, Text}
@@ -82,7 +82,7 @@ readingOf (refused r) = record { answer = Answer.Refused r; ticket = ticketOf no
 -- Where entry i of the marks stands. Document 01 leaves a count above 4,096 free: past the array's end its last entry stands again, so that the
 -- writer refuses the 4,097th mark with 3, as one that does not rise.
 abbrev pub placeOf : ℕ → ℕ
-placeOf i = pick (ltb i 4096) i 4095
+placeOf i = cond (ltb i 4096) i 4095
 
 abbrev pub listed : List Mark → ℕ → List Mark
 listed ms zero = []

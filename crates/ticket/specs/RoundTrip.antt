@@ -1,19 +1,17 @@
 -- What the laws between reading and writing say (document 01: a ticket read and written again has the same bytes).
 -- Assumes nothing.
-use Prim.Native.Nat.{_<_}
-use mathlib.Core.List.{List, [], _∷_}
+use mathlib.Core.List.{List}
 use Rattle.commands.specs.declared.command.Command.{Command}
 use Rattle.commands.specs.declared.admit.Admitted.{Admitted}
 use Rattle.commands.specs.declared.admit.Admitted.the-variants.{Refused, Next}
+use Rattle.commands.specs.Every.{Every}
 use Rattle.commands.specs.Fits.{Fits}
-use Rattle.ticket.specs.declared.fields.Mark.{Mark}
 use Rattle.ticket.specs.Fields.{Fields, Outcome, read, refused}
 use Rattle.ticket.specs.Write.{commandsOf}
 
 -- every operand fits its width, as in every value of the code's types
-pub data AllFit : List Command → Type 0 where
-  none : AllFit []
-  more : {c : Command} {cs : List Command} → Fits c → AllFit cs → AllFit (c ∷ cs)
+abbrev pub AllFit : List Command → Type 0
+AllFit cs = Every Fits cs
 
 abbrev pub FitsFields : Fields → Type 0
 FitsFields f = AllFit (commandsOf f)
@@ -22,9 +20,3 @@ FitsFields f = AllFit (commandsOf f)
 abbrev pub answered : Admitted → Fields → Outcome
 answered (Refused r) f = refused r
 answered (Next p) f = read f
-
--- marks in rising address, none equal
-pub data Rising : List Mark → Type 0 where
-  none : Rising []
-  one : {m : Mark} → Rising (m ∷ [])
-  more : {m n : Mark} {ms : List Mark} → m .address < n .address → Rising (n ∷ ms) → Rising (m ∷ n ∷ ms)

@@ -4,6 +4,7 @@ use Prim.Native.Nat.{ℕ, _+_, _≤_, _<_}
 use mathlib.Core.Path.{_≡_}
 use mathlib.Core.Logic.{_↔_}
 use mathlib.Core.List.{List, [], _∷_}
+use Rattle.commands.specs.Every.{Every}
 use Rattle.commands.specs.Number.{digits}
 use Rattle.commands.specs.declared.command.Window.{Window}
 use Rattle.commands.specs.declared.command.Claim.{Claim}
@@ -14,15 +15,10 @@ use Rattle.ticket.specs.declared.fields.Mark.{Mark}
 use Rattle.ticket.specs.Fields.{Fields, read}
 use Rattle.ticket.specs.Read.{readOf}
 use Rattle.ticket.specs.Write.{bytesOf}
-use Rattle.ticket.specs.RoundTrip.{FitsFields, Rising}
+use Rattle.ticket.specs.RoundTrip.{FitsFields}
 
 abbrev pub Between : ℕ → ℕ → ℕ → Type 0
 Between least most v = (least ≤ v) × (v ≤ most)
-
--- every element of a list has a property
-pub data Every {ℓ} {A : Type ℓ} (P : A → Type 0) : List A → Type ℓ where
-  none : Every P []
-  more : {a : A} {l : List A} → P a → Every P l → Every P (a ∷ l)
 
 -- an address lies in a window
 abbrev pub In : Window → ℕ → Type 0
@@ -62,6 +58,12 @@ pub record MarkRules (h : Header) (m : Mark) : Type 0 where
   pub claimed : ClaimRules (m .claim)
   pub inside : In (h .code) (m .address)
   pub named : NameRule (m .name)
+
+-- marks in rising address, none equal
+pub data Rising : List Mark → Type 0 where
+  none : Rising []
+  one : {m : Mark} → Rising (m ∷ [])
+  more : {m n : Mark} {ms : List Mark} → m .address < n .address → Rising (n ∷ ms) → Rising (m ∷ n ∷ ms)
 
 pub record Readable (f : Fields) : Type 0 where
   pub header-rules : HeaderRules (f .header)

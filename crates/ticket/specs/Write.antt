@@ -2,6 +2,7 @@
 -- needed (document 01, "The ticket", "Where a ticket stops").
 -- Assumes nothing.
 use Prim.Native.Nat.{ℕ, _+_}
+use mathlib.Core.Bool.{cond}
 use mathlib.Core.List.{List, [], _∷_, _++_}
 use lib.Dec.{leb}
 use lib.ListN.{length, take, drop}
@@ -11,7 +12,7 @@ use Rattle.commands.specs.declared.command.Kind.the-variants.{Code, Data, Stack
 use Rattle.commands.specs.declared.prefix.Header.{Header}
 use Rattle.commands.specs.declared.admit.Admitted.{Admitted}
 use Rattle.commands.specs.declared.admit.Admitted.the-variants.{Refused, Next}
-use Rattle.commands.specs.Bytes.{pick, encodeOf}
+use Rattle.commands.specs.Bytes.{encodeOf}
 use Rattle.commands.specs.Prefix.{startOf}
 use Rattle.commands.specs.Admit.{thenOf}
 use Rattle.ticket.specs.declared.fields.Name.{Name}
@@ -63,7 +64,7 @@ checkOf f = allThen (Next startOf) (commandsOf f)
 -- n bytes are needed
 abbrev pub writtenIf : Admitted → ℕ → ℕ → Written
 writtenIf (Refused r) n room = Written.Refused r
-writtenIf (Next p) n room = pick (leb n room) (Written.Length n) (Written.Refused (record { number = 24; place = n }))
+writtenIf (Next p) n room = cond (leb n room) (Written.Length n) (Written.Refused (record { number = 24; place = n }))
 
 unfoldable pub writeOf : Fields → ℕ → Written
 writeOf f room = writtenIf (checkOf f) (length (bytesOf f)) room

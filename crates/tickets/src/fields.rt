@@ -5,13 +5,13 @@
 use crate::build::build;
 use crate::build::byte_at;
 use crate::build::word;
-use crate::print::decimal;
 use crate::print::refusal;
-use crate::print::text;
 use check::same;
 use commands::command::Claim;
 use commands::command::Window;
 use commands::prefix::Header;
+use output::decimal;
+use output::text;
 use registers::Cycles;
 use registers::StackBytes;
 use std::num::wrapping_add_usize;

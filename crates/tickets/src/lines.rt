@@ -2,8 +2,8 @@
 ghost use Prim.Native.Nat.{_+_, _≤_, _<_};
 ghost use lib.ListN.{length};
 use crate::fields::wrote;
-use crate::print::text;
 use crate::show::show;
+use output::text;
 
 fn line(s: &[u8]) {
     if 0 < s.len() {

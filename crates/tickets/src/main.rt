@@ -1,10 +1,10 @@
 // Tickets read and written: each as a short text, and what is answered. The file stdout has document 01's answers, worked out by hand.
-use print::text;
+use output::text;
 
 mod build; // a ticket's bytes from a short text
 mod fields; // tickets given to the writer as fields
 mod lines; // the lines of a file
-mod print; // text
+mod print; // a refusal as text
 mod show; // what is answered
 
 fn main() {

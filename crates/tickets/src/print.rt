@@ -1,16 +1,7 @@
 // Answers as text.
 use commands::command::Refusal;
-use io::print_decimal;
-use io::write_all;
-use libc::STDOUT_FILENO;
-
-pub fn text(s: &[u8]) {
-    write_all(STDOUT_FILENO, s);
-}
-
-pub fn decimal(n: u64) {
-    print_decimal(STDOUT_FILENO, n);
-}
+use output::decimal;
+use output::text;
 
 // Document 01's number and place.
 pub fn refusal(r: Refusal) {

@@ -1,9 +1,9 @@
 // A ticket as a text, and what reading it answers; where it is read it is written again.
 use crate::build::build;
-use crate::print::decimal;
 use crate::print::refusal;
-use crate::print::text;
 use check::same;
+use output::decimal;
+use output::text;
 use ticket::answer::Answer;
 use ticket::answer::Written;
 use ticket::fields::Ticket;

@@ -2,11 +2,10 @@
 -- Assumes nothing.
 use Prim.Native.Nat.{ℕ}
 use Prim.Native.Char.{Char, code}
-use mathlib.Core.Bool.{Bool}
+use mathlib.Core.Bool.{Bool, cond as pick}
 use mathlib.Core.List.{List, [], _∷_, _++_}
 use Rattle.registers.specs.Flags.{bit, low}
 use Rattle.registers.specs.declared.Registers.{Registers}
-use Rattle.opcodes.specs.Decode.{pick}
 use Rattle.text.specs.declared.listing.Listing.{Listing}
 use Rattle.text.specs.Text.{ascii}
 use Rattle.text.specs.Number.{byteHex, hexOf}

@@ -1,9 +1,9 @@
 -- The line of an address: how often it was executed, and the least and the most cycles to its routine's own return that were seen there.
 -- Assumes nothing.
 use Prim.Native.Nat.{ℕ, _+_}
+use mathlib.Core.Bool.{cond as pick}
 use mathlib.Core.List.{List, [], _++_}
 use lib.Dec.{eqb, ltb}
-use Rattle.opcodes.specs.Decode.{pick}
 use Rattle.text.specs.declared.listing.Listing.{Listing}
 use Rattle.text.specs.Text.{ascii}
 use Rattle.tracelines.specs.declared.summary.Visits.{Visits}

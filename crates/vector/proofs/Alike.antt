@@ -1,7 +1,7 @@
 -- Registers are equal where each of the seven is, and an answer is the one expected where its registers and its cycles are.
 -- Assumes nothing.
 use mathlib.Core.Path.{_≡_, refl, subst}
-use mathlib.Core.Bool.{Bool, true, _&&_}
+use mathlib.Core.Bool.{Bool, true, _&&_, and-eq-true-iff}
 use Prim.Native.Nat.{ℕ}
 use native.Mathlib.Omega.{arith}
 use lib.Dec.{eqb}
@@ -9,7 +9,6 @@ use borrow.Author.Tests.{eqb-true, eq-eqb}
 use Rattle.registers.specs.declared.Registers.{Registers}
 use Rattle.registers.specs.declared.Cycles.{Cycles}
 use Rattle.stepper.specs.Answer.{done, refused}
-use Rattle.vector.proofs.Answers.{both, also}
 
 -- the registers up to each of the seven, in the order in which the code compares them
 module _ (p q : Registers) where
@@ -36,12 +35,12 @@ made x y sp pc a b f = record { x = x; y = y; sp = sp; pc = pc; a = a; b = b; fl
 
 pub alike-same : (p q : Registers) → alike p q ≡ true → p ≡ q
 alike-same p q e =
-    let f = both (toPc p q) (eqb (p .flags) (q .flags)) e in
-    let u = both (toSp p q) (eqb (p .pc) (q .pc)) (f .0) in
-    let s = both (toY p q) (eqb (p .sp) (q .sp)) (u .0) in
-    let y = both (toX p q) (eqb (p .y) (q .y)) (s .0) in
-    let x = both (toB p q) (eqb (p .x) (q .x)) (y .0) in
-    let b = both (eqb (p .a) (q .a)) (eqb (p .b) (q .b)) (x .0) in
+    let f = and-eq-true-iff (toPc p q) (eqb (p .flags) (q .flags)) .0 e in
+    let u = and-eq-true-iff (toSp p q) (eqb (p .pc) (q .pc)) .0 (f .0) in
+    let s = and-eq-true-iff (toY p q) (eqb (p .sp) (q .sp)) .0 (u .0) in
+    let y = and-eq-true-iff (toX p q) (eqb (p .y) (q .y)) .0 (s .0) in
+    let x = and-eq-true-iff (toB p q) (eqb (p .x) (q .x)) .0 (y .0) in
+    let b = and-eq-true-iff (eqb (p .a) (q .a)) (eqb (p .b) (q .b)) .0 (x .0) in
     let w : made (p .x) (p .y) (p .sp) (p .pc) (p .a) (p .b) (p .flags) ≡ made (q .x) (q .y) (q .sp) (q .pc) (q .a) (q .b) (q .flags) =
     cc (
       eqb-true (p .flags) (q .flags) (f .1),
@@ -73,12 +72,12 @@ same-alike p q e = subst (λ (r : Registers). alike p r ≡ true) e (alike-self 
 module _ (p q : Registers) (j k : Cycles) (b : Bool) where
   pub alike-done : (b ≡ true → p ≡ q) → (eqb (j .0) (k .0) && b) ≡ true → done p j ≡ done q k
   alike-done h e =
-      let t = both (eqb (j .0) (k .0)) b e in
+      let t = and-eq-true-iff (eqb (j .0) (k .0)) b .0 e in
       let w : done p (record { 0 = j .0 }) ≡ done q (record { 0 = k .0 }) = cc (h (t .1), eqb-true (j .0) (k .0) (t .0)) in
       w
 
   pub done-alike : (p ≡ q → b ≡ true) → done p j ≡ done q k → (eqb (j .0) (k .0) && b) ≡ true
-  done-alike h e = also (eqb (j .0) (k .0)) b (eq-eqb (j .0) (k .0) (cc)) (h (cc))
+  done-alike h e = and-eq-true-iff (eqb (j .0) (k .0)) b .1 (eq-eqb (j .0) (k .0) (cc), h (cc))
 
 pub not-done : {n at : ℕ} {q : Registers} {k : Cycles} → refused n at ≡ done q k → ⊥
 not-done e = let z : _≡_ {A = ℕ} 0 1 = cc in omega (arith, z)

@@ -1,4 +1,3 @@
-pub mod Answers
 pub mod Alike
 pub mod Stores
 pub mod Holding

@@ -1,15 +1,15 @@
--- Upper-case hexadecimal digits in a line of text, and the bytes, words and registers that they spell.
+-- Upper-case hexadecimal digits in a line of text, and the bytes, words and registers that they spell (docs/SIMULATORS.md, "The file").
 -- Assumes nothing.
 use Prim.Native.Nat.{ℕ, _+_, _-_, _*_, _%_}
+use mathlib.Core.Bool.{cond}
 use mathlib.Core.List.{List}
 use lib.Dec.{ltb}
 use lib.ListN.{getD}
 use Rattle.registers.specs.declared.Registers.{Registers}
-use Rattle.opcodes.specs.Decode.{pick}
 
 -- the value of a digit `0` to `9` or `A` to `F`, and 16 for any other byte
 unfoldable pub digitOf : ℕ → ℕ
-digitOf c = pick (ltb c 48) 16 (pick (ltb c 58) (c - 48) (pick (ltb c 65) 16 (pick (ltb c 71) (c - 55) 16)))
+digitOf c = cond (ltb c 48) 16 (cond (ltb c 58) (c - 48) (cond (ltb c 65) 16 (cond (ltb c 71) (c - 55) 16)))
 
 -- the value of the digit at a place; 0 where there is none
 abbrev pub valueIn : List ℕ → ℕ → ℕ

@@ -1,4 +1,3 @@
-pub mod Decides
 pub mod Hex
 pub mod Line
 pub mod Vector

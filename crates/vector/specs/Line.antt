@@ -1,12 +1,11 @@
--- The shape of a line, `K C BEFORE AFTER N MEMORY W WRITES`: which places hold a space, which a digit, and how long it is.
+-- The shape of a line, `K C BEFORE AFTER N MEMORY W WRITES`: which places hold a space, which a digit, and how long it is (docs/SIMULATORS.md, "The file").
 -- Assumes nothing.
 use Prim.Native.Nat.{ℕ, _+_, _-_, _*_, _%_, _≤_, _<_}
 use mathlib.Core.Path.{_≡_}
-use mathlib.Core.Bool.{Bool, true, _||_}
+use mathlib.Core.Bool.{Bool, true, cond, _||_}
 use mathlib.Core.List.{List}
 use lib.Dec.{eqb, ltb}
 use lib.ListN.{length, getD}
-use Rattle.opcodes.specs.Decode.{pick}
 use Rattle.vector.specs.Hex.{digitOf, byteIn}
 
 -- K, C, N and W; the bytes listed start at 55, and W stands after them
@@ -23,12 +22,12 @@ writtenIn s = byteIn s (55 + 7 * listedIn s)
 -- byte written
 unfoldable pub spaceDue : ℕ → ℕ → Bool
 spaceDue n i =
-    pick (ltb i 55) (eqb i 2 || (eqb i 5 || (eqb i 28 || (eqb i 51 || eqb i 54))))
-    (pick (ltb i (55 + 7 * n)) (eqb ((i - 55) % 7) 6) (eqb ((i - (55 + 7 * n)) % 7) 2))
+    cond (ltb i 55) (eqb i 2 || (eqb i 5 || (eqb i 28 || (eqb i 51 || eqb i 54))))
+    (cond (ltb i (55 + 7 * n)) (eqb ((i - 55) % 7) 6) (eqb ((i - (55 + 7 * n)) % 7) 2))
 
 -- whether a byte is the space or the digit that is due at its place
 unfoldable pub isDue : ℕ → ℕ → ℕ → Bool
-isDue n i c = pick (spaceDue n i) (eqb c 32) (ltb (digitOf c) 16)
+isDue n i c = cond (spaceDue n i) (eqb c 32) (ltb (digitOf c) 16)
 
 abbrev pub Due : ℕ → List ℕ → ℕ → Type 0
 Due n s i = isDue n i (getD s i 0) ≡ true

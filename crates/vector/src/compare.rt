@@ -1,7 +1,8 @@
 // Whether a step comes to what a line says: every register, all eight flags, the cycles and all 65,536 bytes.
 ghost use mathlib.Core.Path.{_≡_};
+ghost use mathlib.Core.Logic.{_↔_};
+ghost use mathlib.Core.Bool.{true};
 ghost use Rattle.stepper.specs.Answer.{answerOf, done};
-ghost use Rattle.vector.specs.Decides.{Decides};
 ghost use Rattle.vector.specs.Line.{Shaped};
 ghost use Rattle.vector.specs.Vector.{Holds};
 use crate::hex::byte_in;
@@ -15,7 +16,7 @@ use stepper::answer::Stepped;
 use stepper::step;
 
 pub fn same_registers(p: Registers, q: Registers) -> bool
-    ensures { λ r. ⌜ Decides r (p ≡ q) ⌝ }
+    ensures { λ r. ⌜ (r ≡ true) ↔ (p ≡ q) ⌝ }
 {
     (p.a == q.a)
         & (p.b == q.b)
@@ -28,7 +29,7 @@ pub fn same_registers(p: Registers, q: Registers) -> bool
 
 // Whether an answer is these registers after so many cycles.
 fn is_done(a: Stepped, q: Registers, k: Cycles) -> bool
-    ensures { λ r. ⌜ Decides r (answerOf a ≡ done q k) ⌝ }
+    ensures { λ r. ⌜ (r ≡ true) ↔ (answerOf a ≡ done q k) ⌝ }
 {
     match a {
         Stepped::Done(p, c) => (c.0 == k.0) & same_registers(p, q),
@@ -39,7 +40,7 @@ fn is_done(a: Stepped, q: Registers, k: Cycles) -> bool
 // Whether a line holds.
 pub fn holds(s: &[u8]) -> bool
     requires { ⌜ Shaped (now s) ⌝ }
-    ensures { λ r. ⌜ Decides r (Holds (now (s .entry))) ⌝ }
+    ensures { λ r. ⌜ (r ≡ true) ↔ (Holds (now (s .entry))) ⌝ }
 {
     let mut mem = memory_in(s);
     let a = step(registers_in(s, 6), &mut mem);

@@ -2,6 +2,6 @@
 // crate of the program `vectors`: what a line says, and the verdict on it.
 pub mod compare; // whether a step comes to what a line says
 pub mod hex; // digits, bytes, words and registers in a line
-pub mod line; // the shape of a line
+mod line; // the shape of a line
 pub mod loaded; // the memory and the place that a line says
 pub mod verdict; // the verdict on a line

@@ -1,7 +1,8 @@
 // The shape of a line: a space or a digit at each place, and the length that its counts ask for.
 ghost use mathlib.Core.Path.{_≡_};
+ghost use mathlib.Core.Logic.{_↔_};
+ghost use mathlib.Core.Bool.{true};
 ghost use Prim.Native.Nat.{_≤_};
-ghost use Rattle.vector.specs.Decides.{Decides};
 ghost use Rattle.vector.specs.Line.{spaceDue, isDue, AllDue, Shaped};
 use crate::hex::byte_in;
 use crate::hex::digit;
@@ -33,7 +34,7 @@ fn is_due(n: usize, i: usize, c: u8) -> bool
 // Whether every byte of a line that lists n bytes is the one that is due.
 fn all_due(s: &[u8], n: usize) -> bool
     requires { ⌜ n ≤ 16 ⌝ }
-    ensures { λ r. ⌜ Decides r (AllDue n (now (s .entry))) ⌝ }
+    ensures { λ r. ⌜ (r ≡ true) ↔ (AllDue n (now (s .entry))) ⌝ }
 {
     let mut i = 0;
     while i < s.len() {
@@ -47,7 +48,7 @@ fn all_due(s: &[u8], n: usize) -> bool
 
 // Whether a line is of the format.
 pub fn shaped(s: &[u8]) -> bool
-    ensures { λ r. ⌜ Decides r (Shaped (now (s .entry))) ⌝ }
+    ensures { λ r. ⌜ (r ≡ true) ↔ (Shaped (now (s .entry))) ⌝ }
 {
     if s.len() < 64 {
         return false;

@@ -1,8 +1,8 @@
--- What is counted of lines and of places. The counts wrap at 2^32.
+-- What is counted of lines (docs/SIMULATORS.md, "The file"). The counts wrap at 2^32.
 -- Assumes nothing.
 use Prim.Native.Nat.{ℕ, _+_, _%_}
+use mathlib.Core.Bool.{cond}
 use lib.Dec.{eqb}
-use Rattle.opcodes.specs.Decode.{pick}
 use Rattle.vectors.specs.declared.count.Counts.{Counts}
 use Rattle.vector.specs.declared.verdict.Verdict.{Verdict}
 use Rattle.vector.specs.declared.verdict.Verdict.the-variants.{Malformed, Differs, Agrees}
@@ -18,10 +18,10 @@ abbrev pub confirmedOf : Counts → ℕ → Counts
 confirmedOf c kind =
     record {
       vectors = next (c .vectors);
-      neither = pick (eqb kind 0) (next (c .neither)) (c .neither);
-      gnu = pick (eqb kind 1) (next (c .gnu)) (c .gnu);
-      mame = pick (eqb kind 2) (next (c .mame)) (c .mame);
-      both = pick (eqb kind 0) (c .both) (pick (eqb kind 1) (c .both) (pick (eqb kind 2) (c .both) (next (c .both))));
+      neither = cond (eqb kind 0) (next (c .neither)) (c .neither);
+      gnu = cond (eqb kind 1) (next (c .gnu)) (c .gnu);
+      mame = cond (eqb kind 2) (next (c .mame)) (c .mame);
+      both = cond (eqb kind 0) (c .both) (cond (eqb kind 1) (c .both) (cond (eqb kind 2) (c .both) (next (c .both))));
       malformed = c .malformed;
       differences = c .differences;
     }

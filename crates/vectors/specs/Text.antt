@@ -1,4 +1,4 @@
--- The lines of a text, byte by byte: what is read of the last line, and what is counted of those before it.
+-- The lines of a text, byte by byte: what is read of the last line, and what is counted of those before it (docs/SIMULATORS.md, "The file").
 -- Assumes nothing.
 use Prim.Native.Nat.{ℕ, _<_, _≤_}
 use mathlib.Core.Path.{_≡_}

@@ -1,11 +1,10 @@
 // Stored vectors of other simulators, each run through `step`: reads vectors.txt from its folder and prints what agrees.
 use count::Counts;
-use print::counted;
-use print::text;
+use output::counted;
+use output::text;
 
 mod count; // what is counted
 mod places; // the opcode maps
-mod print; // text
 mod reader; // the lines of a file
 mod report; // a difference
 

@@ -1,9 +1,9 @@
 // The places of the opcode maps: which of them hold an instruction, and how many vectors each has.
-use crate::print::counted;
-use crate::print::decimal;
-use crate::print::text;
 use check::same;
 use memory::put_byte;
+use output::counted;
+use output::decimal;
+use output::text;
 use registers::Registers;
 use std::num::wrapping_add_u32;
 use stepper::answer::Refusal;

@@ -1,10 +1,10 @@
 // A difference by its line and place: what differs, what was expected and what step answered.
 ghost use Rattle.vector.specs.Line.{Shaped};
-use crate::print::byte;
-use crate::print::decimal;
-use crate::print::registers;
-use crate::print::text;
-use crate::print::word;
+use output::byte;
+use output::decimal;
+use output::registers;
+use output::text;
+use output::word;
 use registers::Cycles;
 use registers::Registers;
 use stepper::answer::Refusal;

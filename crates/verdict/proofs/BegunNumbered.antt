@@ -2,14 +2,13 @@
 -- Assumes nothing.
 use Prim.Native.Nat.{ℕ, _≤_}
 use mathlib.Core.Path.{_≡_, refl}
-use mathlib.Core.Bool.{Bool, true, false}
+use mathlib.Core.Bool.{Bool, true, false, cond}
 use mathlib.Core.List.{List}
 use native.Mathlib.Omega.{arith}
 use lib.Dec.{eqb}
 use lib.ListN.{length}
 use Rattle.registers.specs.declared.Data.{Data}
 use Rattle.registers.specs.declared.Registers.{Registers}
-use Rattle.opcodes.specs.Decode.{pick}
 use Rattle.commands.specs.declared.command.Refusal.{Refusal}
 use Rattle.ticket.specs.Fields.{Fields, Outcome, read, refused}
 use Rattle.ticket.specs.Read.{refusal, readOf}
@@ -30,7 +29,7 @@ abbrev RefusesNotZero : Verdict → Type 0
 RefusesNotZero v = (r : Refusal) → v ≡ Refuse r → 1 ≤ r .number
 
 -- by the start's two tests
-tests-not-zero : (a b : Bool) (q : Registers) → NotZero (pick a (pick b (At q) (Refused (refusal 9 0))) (Refused (refusal 21 0)))
+tests-not-zero : (a b : Bool) (q : Registers) → NotZero (cond a (cond b (At q) (Refused (refusal 9 0))) (Refused (refusal 21 0)))
 tests-not-zero true true q = tt
 tests-not-zero true false q = omega arith
 tests-not-zero false b q = omega arith
@@ -50,7 +49,7 @@ module _ (image : List ℕ) (d : Data) (m : List ℕ) where
 
   -- by whether the memory has 65,536 bytes
   sized-not-zero : (b : Bool) (o : Outcome) → RefusesNotZero (verdictBy o image)
-      → NotZero (pick b (begunBy o d image m) (begun (Refused (refusal 21 0)) m) .answer)
+      → NotZero (cond b (begunBy o d image m) (begun (Refused (refusal 21 0)) m) .answer)
   sized-not-zero true o p = by-not-zero o p
   sized-not-zero false o p = omega arith
 

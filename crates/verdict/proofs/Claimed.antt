@@ -13,7 +13,8 @@ use Rattle.registers.specs.Word.{plus}
 use Rattle.memory.specs.Memory.{byteAt, withByte, applied}
 use Rattle.commands.specs.declared.prefix.Header.{Header}
 use Rattle.ticket.specs.Fields.{Fields}
-use Rattle.ticket.specs.Rules.{In, HeaderRules, none, more}
+use Rattle.commands.specs.Every.{none, more}
+use Rattle.ticket.specs.Rules.{In, HeaderRules}
 use Rattle.rules.specs.Rules.{Accepted}
 use Rattle.rules.specs.Claim.{topOf, Loaded}
 use Rattle.rules.proofs.Memory.{length-applied, byte-applied}

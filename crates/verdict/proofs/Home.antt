@@ -2,7 +2,7 @@
 -- Assumes nothing.
 use Prim.Native.Nat.{ℕ, _-_}
 use mathlib.Core.Path.{_≡_, refl, sym, ap}
-use mathlib.Core.Bool.{Bool, true, false}
+use mathlib.Core.Bool.{Bool, true, false, cond}
 use mathlib.Core.List.{List}
 use native.Mathlib.Omega.{arith}
 use borrow.Author.Tests.{eqb-true}
@@ -12,7 +12,6 @@ use Rattle.registers.specs.declared.Cycles.{Cycles}
 use Rattle.registers.specs.declared.Data.{Data}
 use Rattle.registers.specs.declared.Registers.{Registers}
 use Rattle.registers.specs.Registers.{startOf}
-use Rattle.opcodes.specs.Decode.{pick}
 use Rattle.commands.specs.declared.command.Refusal.{Refusal}
 use Rattle.commands.specs.Number.{AllBytes}
 use Rattle.ticket.specs.Fields.{Fields, Outcome, read, refused}
@@ -59,7 +58,7 @@ module _ (ticket image : List ℕ) (bytes : AllBytes ticket) (d : Data) (m : Lis
   home-by size (read f) h r s = home-if f h size (judgedOf f image) refl r s
 
   -- by whether the memory has 65,536 bytes
-  home-sized : (b : Bool) → eqb (length m) 65536 ≡ b → Home (pick b (begunBy (readOf ticket) d image m) (begun (Refused (refusal 21 0)) m))
+  home-sized : (b : Bool) → eqb (length m) 65536 ≡ b → Home (cond b (begunBy (readOf ticket) d image m) (begun (Refused (refusal 21 0)) m))
   home-sized true e r s = home-by (eqb-true _ _ e) (readOf ticket) refl r s
   home-sized false e r s = absurd (not-started (refusal 21 0) r s)
 

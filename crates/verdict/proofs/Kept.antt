@@ -1,24 +1,25 @@
 -- The start leaves every byte outside the code window and home.
 -- Assumes nothing.
 use Prim.Native.Nat.{ℕ, _+_, _-_, _<_}
-use mathlib.Core.Bool.{Bool, true, false}
+use mathlib.Core.Bool.{Bool, true, false, cond}
 use mathlib.Core.Path.{_≡_, refl, sym, _∙_}
 use mathlib.Core.List.{List}
 use native.Mathlib.Omega.{arith}
 use lib.Dec.{eqb}
 use lib.ListN.{length}
 use Rattle.memory.specs.Memory.{Store, byteAt, applied}
-use Rattle.opcodes.specs.Decode.{pick}
 use Rattle.commands.specs.declared.prefix.Header.{Header}
+use Rattle.commands.proofs.Every.{every-map}
 use Rattle.ticket.specs.Fields.{Fields}
-use Rattle.ticket.specs.Rules.{In, none, more}
+use Rattle.commands.specs.Every.{none, more}
+use Rattle.ticket.specs.Rules.{In}
 use Rattle.rules.specs.Rules.{Accepted}
 use Rattle.rules.specs.Claim.{topOf}
-use Rattle.rules.proofs.Memory.{every-map, byte-applied}
+use Rattle.rules.proofs.Memory.{byte-applied}
 use Rattle.verdict.specs.Start.{imageStores, loadedOf}
 use Rattle.verdict.proofs.Stores.{Among, image-among, homeOf, last-is, under-is, code-is}
 
-either : (b c : Bool) (m n : List ℕ) (a : ℕ) → byteAt n a ≡ byteAt m a → byteAt (pick b (pick c n m) m) a ≡ byteAt m a
+either : (b c : Bool) (m n : List ℕ) (a : ℕ) → byteAt n a ≡ byteAt m a → byteAt (cond b (cond c n m) m) a ≡ byteAt m a
 either false c m n a e = refl
 either true false m n a e = refl
 either true true m n a e = e

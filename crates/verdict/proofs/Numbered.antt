@@ -2,14 +2,13 @@
 -- Assumes nothing.
 use Prim.Native.Nat.{ℕ, zero, suc, _≤_}
 use mathlib.Core.Path.{_≡_}
-use mathlib.Core.Bool.{Bool, true, false}
+use mathlib.Core.Bool.{Bool, true, false, cond}
 use mathlib.Core.List.{List, [], _∷_, _++_}
 use mathlib.Core.Option.{Option, none, some}
 use native.Mathlib.Omega.{arith}
 use lib.Dec.{eqb, leb, eqb·suc-zero}
 use lib.ListN.{length}
 use borrow.Author.Tests.{leb-true}
-use Rattle.opcodes.specs.Decode.{pick}
 use Rattle.commands.specs.Bytes as Bytes
 use Rattle.commands.specs.Cause.{causeOf}
 use Rattle.commands.specs.Prefix.{startOf, afterOf}
@@ -40,7 +39,7 @@ abbrev AllInTable : List Check → Type 0
 AllInTable [] = Unit
 AllInTable (c ∷ cs) = InTable (c .number) × AllInTable cs
 
-either : (b : Bool) (v : Verdict) (n place : ℕ) → OneToTwenty v → InTable n → OneToTwenty (pick b v (Refuse (refusal n place)))
+either : (b : Bool) (v : Verdict) (n place : ℕ) → OneToTwenty v → InTable n → OneToTwenty (cond b v (Refuse (refusal n place)))
 either true v n place rest this = rest
 either false v n place rest this = this
 
@@ -65,7 +64,7 @@ module _ (f : Fields) (image : List ℕ) where
       let claim = claimAt (f .marks) entry in
       first-numbered (checksOf f image) (acceptOf entry claim) (search (arith, checks-numbered (f .marks))) (accept-numbered entry claim)
 
-most : (b : Bool) (n k : ℕ) → leb n 20 ≡ true → leb k 20 ≡ true → leb (Bytes.pick b n k) 20 ≡ true
+most : (b : Bool) (n k : ℕ) → leb n 20 ≡ true → leb k 20 ≡ true → leb (cond b n k) 20 ≡ true
 most true n k p q = p
 most false n k p q = q
 
@@ -81,7 +80,7 @@ end-numbered image p ms (b ∷ s) = search arith
 module _ (image : List ℕ) (ms : List Mark) (s : List ℕ) (f : Rest)
     (left : (q : Prefix) (ks : List Mark) (t : List ℕ) → OneToTwenty (verdictBy (f q ks t) image)) where
   admit-numbered : (p q : Prefix) (c : Command) (n : ℕ) → leb n 20 ≡ true
-      → OneToTwenty (verdictBy (onward (admittedAs (Bytes.pick (eqb n 0) (Next q) (Refused (refusal n (p .at)))) c) ms s f) image)
+      → OneToTwenty (verdictBy (onward (admittedAs (cond (eqb n 0) (Next q) (Refused (refusal n (p .at)))) c) ms s f) image)
   admit-numbered p q c zero few = left q _ _
   admit-numbered p q c (suc n) few = rw eqb·suc-zero (omega arith, leb-true (suc n) 20 few)
 

@@ -9,10 +9,12 @@ use lib.Seq.{getD-set-same}
 use Rattle.registers.specs.Word.{plus, less}
 use Rattle.registers.proofs.Wrap.{plus-zero}
 use Rattle.memory.specs.Memory.{Store, store, byteAt, withByte, applied}
+use Rattle.commands.proofs.Every.{every-map}
 use Rattle.ticket.specs.Fields.{Fields}
-use Rattle.ticket.specs.Rules.{Every, none, more, HeaderRules}
+use Rattle.commands.specs.Every.{Every, none, more}
+use Rattle.ticket.specs.Rules.{HeaderRules}
 use Rattle.rules.specs.Claim.{topOf}
-use Rattle.rules.proofs.Memory.{every-map, byte-applied}
+use Rattle.rules.proofs.Memory.{byte-applied}
 use Rattle.verdict.specs.Start.{lastOf, imageStores}
 
 -- a store to one of n addresses from a on

@@ -1,7 +1,8 @@
--- A routine judged and, where it is accepted, started; and that what is started comes home (demand 3).
+-- A routine judged and, where it is accepted, started; and that what is started comes home (document 01, "Start", "The way home": demand 3).
 -- Assumes nothing.
 use Prim.Native.Nat.{ℕ, _-_}
 use mathlib.Core.Path.{_≡_}
+use mathlib.Core.Bool.{cond}
 use mathlib.Core.List.{List}
 use lib.Dec.{eqb}
 use lib.ListN.{length}
@@ -9,7 +10,6 @@ use Rattle.registers.specs.declared.Cycles.{Cycles}
 use Rattle.registers.specs.declared.Data.{Data}
 use Rattle.registers.specs.declared.Registers.{Registers}
 use Rattle.registers.specs.declared.StackBytes.{StackBytes}
-use Rattle.opcodes.specs.Decode.{pick}
 use Rattle.ticket.specs.Fields.{Fields, Outcome, read, refused}
 use Rattle.ticket.specs.Read.{refusal, readOf}
 use Rattle.rules.specs.declared.Verdict.{Verdict}
@@ -40,7 +40,7 @@ begunBy (read f) d image m = begunIf (judgedOf f image) f d image m
 
 -- 21 is checked first; then what the verdict refuses is refused, and alters nothing
 unfoldable pub begunOf : List ℕ → List ℕ → Data → List ℕ → Begun
-begunOf ticket image d m = pick (eqb (length m) 65536) (begunBy (readOf ticket) d image m) (begun (Refused (refusal 21 0)) m)
+begunOf ticket image d m = cond (eqb (length m) 65536) (begunBy (readOf ticket) d image m) (begun (Refused (refusal 21 0)) m)
 
 -- from the registers and the memory that are answered, the routine comes home
 pub record Certain (ticket image : List ℕ) (r : Registers) (m : List ℕ) : Type 0 where

@@ -2,6 +2,7 @@
 -- Assumes nothing.
 use Prim.Native.Nat.{ℕ}
 use mathlib.Core.Path.{_≡_}
+use mathlib.Core.Bool.{cond}
 use mathlib.Core.List.{List, [], _∷_}
 use lib.Dec.{eqb}
 use lib.ListN.{length}
@@ -9,7 +10,6 @@ use Rattle.registers.specs.declared.Data.{Data}
 use Rattle.registers.specs.Registers.{startOf}
 use Rattle.registers.specs.Word.{plus, less}
 use Rattle.memory.specs.Memory.{Store, store, applied}
-use Rattle.opcodes.specs.Decode.{pick}
 use Rattle.commands.specs.declared.command.Window.{Window}
 use Rattle.commands.specs.declared.prefix.Header.{Header}
 use Rattle.ticket.specs.Fields.{Fields}
@@ -34,7 +34,7 @@ homeStores top = store top 0 ∷ store (less top 1) 0 ∷ []
 
 -- 21: memory not 65,536 bytes; then 9: the image's length is not the code window's
 abbrev pub bySize : {A : Type 0} → Header → List ℕ → List ℕ → A → A → A → A
-bySize h image m a-21 a-9 a = pick (eqb (length m) 65536) (pick (eqb (length image) (h .code .length)) a a-9) a-21
+bySize h image m a-21 a-9 a = cond (eqb (length m) 65536) (cond (eqb (length image) (h .code .length)) a a-9) a-21
 
 unfoldable pub startedOf : Header → Data → List ℕ → List ℕ → Started
 startedOf h d image m =

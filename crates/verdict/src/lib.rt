@@ -1,4 +1,4 @@
-// The verdict on a routine, and its start. `verdict` and `start` are the interface: they take any bytes and any header.
+// The verdict on a routine, and its start. `verdict`, `start` and `start_routine` are the interface: they take any bytes, any header and any memory.
 ghost use mathlib.Core.Path.{_≡_};
 ghost use Rattle.rules.specs.Checks.{verdictOf};
 ghost use Rattle.verdict.specs.Promise.{Promised};
@@ -34,7 +34,7 @@ pub fn verdict(ticket: &[u8], image: &[u8]) -> Verdict
     }
 }
 
-// The registers at the start, or 21 for the memory's length, or 9 for the image's.
+// The registers at the start, or a refusal: 21 for the memory's length, 9 for the image's, or the verdict's.
 pub enum Started {
     At(Registers),
     Refused(Refusal),

@@ -1,3 +1,5 @@
+-- `byte_at` meets its contract: an address of 16 bits is an index of a memory of 65,536 bytes.
+-- Assumes nothing.
 use borrow.Author.Needs.{needs}
 use Rattle.memory.specs.Memory.{byteAt}
 use Rattle.memory.proofs.byte_at.Statement.{statement}

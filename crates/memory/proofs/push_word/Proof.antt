@@ -1,3 +1,5 @@
+-- `push_word` meets its contract: the two stores in order, the low byte first.
+-- Assumes nothing.
 use borrow.Author.Needs.{needs}
 use Rattle.memory.specs.Memory.{withPushed}
 use Rattle.memory.proofs.push_word.Statement.{statement}

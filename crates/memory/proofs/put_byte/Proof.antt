@@ -1,3 +1,5 @@
+-- `put_byte` meets its contract: one byte is set, and the length stays.
+-- Assumes nothing.
 use borrow.Author.Needs.{needs}
 use Rattle.memory.specs.Memory.{withByte}
 use Rattle.memory.proofs.put_byte.Statement.{statement}

@@ -1,3 +1,5 @@
+-- `put_word` meets its contract: the two stores in order, the high byte first.
+-- Assumes nothing.
 use borrow.Author.Needs.{needs}
 use Rattle.memory.specs.Memory.{withWord}
 use Rattle.memory.proofs.put_word.Statement.{statement}

@@ -1,3 +1,5 @@
+-- `word_at` meets its contract: the word of the two bytes read.
+-- Assumes nothing.
 use borrow.Author.Needs.{needs}
 use Rattle.memory.specs.Memory.{wordAt}
 use Rattle.memory.proofs.word_at.Statement.{statement}

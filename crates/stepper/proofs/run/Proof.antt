@@ -1,3 +1,5 @@
+-- `run` meets its contract: refused for the memory's length, home at once, or the loop.
+-- Assumes nothing.
 use borrow.Author.Needs.{needs}
 use borrow.Author.Tests.{eq-eqb, ne-eqb}
 use mathlib.Core.Path.{_∙_}

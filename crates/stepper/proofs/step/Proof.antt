@@ -1,3 +1,5 @@
+-- `step` meets its contract: refused for the memory's length, refused where no instruction stands, or the loop with that instruction's own cycles.
+-- Assumes nothing.
 use borrow.Author.Needs.{needs}
 use mathlib.Core.Path.{sym, ap, _∙_}
 use native.Mathlib.Omega.{arith}

@@ -1,3 +1,5 @@
+-- `stepped` meets its contract: a case for each answer of the loop.
+-- Assumes nothing.
 use borrow.Author.Needs.{needs}
 use borrow.Author.Tests.{eq-eqb, ne-eqb}
 use Rattle.stepper.proofs.stepped.Statement.{statement}

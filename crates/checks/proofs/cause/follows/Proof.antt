@@ -1,7 +1,8 @@
 -- `follows` meets its contract: the tests stand in the order of the causes.
 -- Assumes nothing.
 use borrow.Author.Needs.{needs}
-use Rattle.checks.proofs.Tests.{both, fails, passes}
+use Rattle.commands.proofs.Tests.{fails, passes}
+use Rattle.checks.proofs.Tests.{both}
 use Rattle.checks.proofs.cause.follows.Statement.{statement}
 use Rattle.checks.proofs.cause.follows.Tie as tie
 

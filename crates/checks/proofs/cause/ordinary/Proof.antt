@@ -2,7 +2,7 @@
 -- Assumes nothing.
 use borrow.Author.Needs.{needs}
 use borrow.Author.Tests.{le-leb, lt-leb}
-use Rattle.checks.proofs.Tests.{fails, passes}
+use Rattle.commands.proofs.Tests.{fails, passes}
 use Rattle.checks.proofs.cause.ordinary.Statement.{statement}
 use Rattle.checks.proofs.cause.ordinary.Tie as tie
 

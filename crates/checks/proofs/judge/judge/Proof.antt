@@ -8,10 +8,9 @@ use native.Mathlib.Numerals.{add-one}
 use native.Mathlib.Nat.{sub-zero}
 use native.Mathlib.Omega.{arith}
 use mathlib.Core.Path.{_≡_, refl, sym, _∙_}
-use mathlib.Core.Bool.{Bool, true, false}
+use mathlib.Core.Bool.{Bool, true, false, cond}
 use lib.Dec.{ltb}
 use lib.ListN.{length, getD, take, length-map}
-use Rattle.opcodes.specs.Decode.{pick}
 use Rattle.ticket.specs.Fields.{blankMark, fieldsOf}
 use Rattle.rules.specs.Checks.{judgedOf}
 use Rattle.checks.specs.Find.{Ascending}
@@ -45,7 +44,7 @@ full : (c : tie.Start Inv-loop μ-loop) → length (c .args .t .marks) ≡ 4096
 full c = sym (length-map (c .args .t .marks) _) ∙ c .good .0 .1 .1 .1 .1 .0 .1 .0 .1
 
 -- an index that `slot` gives is one of the array
-below : (i n : ℕ) (there : Bool) → ltb i n ≡ there → n ≤ 4096 → pick there i 0 < 4096
+below : (i n : ℕ) (there : Bool) → ltb i n ≡ there → n ≤ 4096 → cond there i 0 < 4096
 below i n true e few = omega (arith, ltb-true i n e)
 below i n false e few = omega arith
 

@@ -1,19 +1,10 @@
 -- `cause` meets its contract: the tests stand in the order of the causes.
 -- Assumes nothing.
-use mathlib.Core.Path.{_≡_, sym, _∙_}
-use mathlib.Core.Bool.{Bool, true, false, not}
 use borrow.Author.Needs.{needs}
-use borrow.Author.Tests.{not-true, not-false}
 use Rattle.commands.specs.Cause.{causeOf}
+use Rattle.commands.proofs.Tests.{fails, passes}
 use Rattle.commands.proofs.cause.cause.Statement.{statement}
 use Rattle.commands.proofs.cause.cause.Tie as tie
-
--- of a test whose result is r
-fails : {r s : Bool} → r ≡ s → not r ≡ true → s ≡ false
-fails e t = sym e ∙ not-true _ t
-
-holds : {r s : Bool} → r ≡ s → not r ≡ false → s ≡ true
-holds e t = sym e ∙ not-false _ t
 
 returns : tie.Need-returns
 unfolding causeOf
@@ -25,7 +16,7 @@ unfolding causeOf
 returns-2 c =
     let order = c .before .before in
     simp (
-      holds (order .before .in-order .ensures) (order .if1 .left),
+      passes (order .before .in-order .ensures) (order .if1 .left),
       fails (c .before .ranges-hold .ensures) (c .if2 .taken),
     )
 
@@ -35,8 +26,8 @@ returns-3 c =
     let ranges = c .before .before in
     let order = ranges .before .before in
     simp (
-      holds (order .before .in-order .ensures) (order .if1 .left),
-      holds (ranges .before .ranges-hold .ensures) (ranges .if2 .left),
+      passes (order .before .in-order .ensures) (order .if1 .left),
+      passes (ranges .before .ranges-hold .ensures) (ranges .if2 .left),
       fails (c .before .edges-hold .ensures) (c .if3 .taken),
     )
 
@@ -47,9 +38,9 @@ returns-4 c =
     let ranges = edges .before .before in
     let order = ranges .before .before in
     simp (
-      holds (order .before .in-order .ensures) (order .if1 .left),
-      holds (ranges .before .ranges-hold .ensures) (ranges .if2 .left),
-      holds (edges .before .edges-hold .ensures) (edges .if3 .left),
+      passes (order .before .in-order .ensures) (order .if1 .left),
+      passes (ranges .before .ranges-hold .ensures) (ranges .if2 .left),
+      passes (edges .before .edges-hold .ensures) (edges .if3 .left),
       fails (c .before .separate .ensures) (c .if4 .taken),
     )
 
@@ -61,10 +52,10 @@ returns-5 c =
     let ranges = edges .before .before in
     let order = ranges .before .before in
     simp (
-      holds (order .before .in-order .ensures) (order .if1 .left),
-      holds (ranges .before .ranges-hold .ensures) (ranges .if2 .left),
-      holds (edges .before .edges-hold .ensures) (edges .if3 .left),
-      holds (apart .before .separate .ensures) (apart .if4 .left),
+      passes (order .before .in-order .ensures) (order .if1 .left),
+      passes (ranges .before .ranges-hold .ensures) (ranges .if2 .left),
+      passes (edges .before .edges-hold .ensures) (edges .if3 .left),
+      passes (apart .before .separate .ensures) (apart .if4 .left),
       fails (c .before .inside .ensures) (c .if5 .taken),
     )
 
@@ -76,11 +67,11 @@ returns-6 c =
     let ranges = edges .before .before in
     let order = ranges .before .before in
     simp (
-      holds (order .before .in-order .ensures) (order .if1 .left),
-      holds (ranges .before .ranges-hold .ensures) (ranges .if2 .left),
-      holds (edges .before .edges-hold .ensures) (edges .if3 .left),
-      holds (apart .before .separate .ensures) (apart .if4 .left),
-      holds (c .before .inside .ensures) (c .if5 .left),
+      passes (order .before .in-order .ensures) (order .if1 .left),
+      passes (ranges .before .ranges-hold .ensures) (ranges .if2 .left),
+      passes (edges .before .edges-hold .ensures) (edges .if3 .left),
+      passes (apart .before .separate .ensures) (apart .if4 .left),
+      passes (c .before .inside .ensures) (c .if5 .left),
     )
 
 pub cause-spec : {M : Type 1} → statement M

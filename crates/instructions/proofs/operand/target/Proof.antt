@@ -1,3 +1,5 @@
+-- `target` meets its contract: a case for each sign of the offset.
+-- Assumes nothing.
 use borrow.Author.Needs.{needs}
 use Rattle.opcodes.specs.Form.{targetOf}
 use borrow.Author.Tests.{lt-ltb, le-ltb}

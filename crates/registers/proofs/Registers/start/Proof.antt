@@ -1,3 +1,5 @@
+-- `start` meets its contract: SP is `down`'s answer, the rest as given.
+-- Assumes nothing.
 use borrow.Author.Needs.{needs}
 use Rattle.registers.proofs.Registers.start.Statement.{statement}
 use Rattle.registers.proofs.Registers.start.Tie as tie

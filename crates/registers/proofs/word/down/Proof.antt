@@ -1,3 +1,5 @@
+-- `down` meets its contract: the standard library's wrapping difference is `less`.
+-- Assumes nothing.
 use borrow.Author.Needs.{needs}
 use Rattle.registers.specs.Word.{less}
 use Rattle.registers.proofs.word.down.Statement.{statement}

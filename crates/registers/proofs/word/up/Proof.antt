@@ -1,3 +1,5 @@
+-- `up` meets its contract: the standard library's wrapping sum is `plus`.
+-- Assumes nothing.
 use borrow.Author.Needs.{needs}
 use Rattle.registers.specs.Word.{plus}
 use Rattle.registers.proofs.word.up.Statement.{statement}

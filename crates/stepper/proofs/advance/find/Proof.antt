@@ -1,3 +1,5 @@
+-- `find` meets its contract: the place by the two bytes read at PC.
+-- Assumes nothing.
 use borrow.Author.Needs.{needs}
 use Rattle.stepper.proofs.advance.find.Statement.{statement}
 use Rattle.stepper.proofs.advance.find.Tie as tie

@@ -1,12 +1,16 @@
+-- `go` meets its contract. The invariant of its loop: memory is as long as it was, PC fits 16 bits, and the run from here with the budget left
+-- comes to what the run from the call does. The measure is the budget left, which each instruction lessens.
+-- Assumes nothing.
 use borrow.Author.Needs.{needs}
 use mathlib.Core.Path.{_≡_, refl, sym, _∙_}
 use native.Mathlib.Omega.{arith}
 use lib.ListN.{length}
 use Prim.Native.Nat.{_<_, _%_}
+use Rattle.opcodes.proofs.Says.{in-tables}
 use Rattle.stepper.specs.Step.{stepOf}
 use Rattle.stepper.specs.Advance.{stepped}
 use Rattle.stepper.proofs.Waits.{executable}
-use Rattle.stepper.proofs.Next.{Here, nowhere, in-tables, length-word, waiting, done-here, executes, fit}
+use Rattle.stepper.proofs.Next.{Here, nowhere, length-word, waiting, done-here, executes, fit}
 use Rattle.stepper.proofs.Turn.{told}
 use Rattle.stepper.proofs.Loop.{Reached, begun, stopped, uncovered, cost, homed, again}
 use Rattle.stepper.proofs.advance.go.Statement.{statement}
@@ -73,7 +77,7 @@ returns c =
     told (stopped (l .inv .2) (nowhere (l .q) (l .mem) (whole (c .before .before .before .before .before)) (l .inv .1) nothing))
 
 number-at-requires : tie.Need-number-at-requires Inv-loop μ-loop
-number-at-requires c κs = (in-tables (here (c .before .before)), turn (c .before .before) .before .before .actions .ensures)
+number-at-requires c κs = (in-tables _ _ (here (c .before .before) .found), turn (c .before .before) .before .before .actions .ensures)
 
 sub-t26 : tie.Need-sub-t26 Inv-loop μ-loop
 sub-t26 c = turn (placed (c .before)) .loop .inv .2 .within
@@ -102,7 +106,7 @@ returns-3 c =
 
 mode-number-at-requires : tie.Need-mode-number-at-requires Inv-loop μ-loop
 mode-number-at-requires c κs =
-    let p = placed (c .before .before .before) in (in-tables (here p), turn p .before .modes .ensures)
+    let p = placed (c .before .before .before) in (in-tables _ _ (here p .found), turn p .before .modes .ensures)
 
 cast-up : tie.Need-cast-up Inv-loop μ-loop
 cast-up c = omega (arith, length-word (here (placed (c .before .before .before .before .before))))

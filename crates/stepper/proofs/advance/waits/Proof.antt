@@ -1,3 +1,5 @@
+-- `waits` meets its contract: WAI, STOP and TEST have the last numbers.
+-- Assumes nothing.
 use Rattle.stepper.proofs.Waits.{waits-from}
 use Rattle.stepper.proofs.advance.waits.Statement.{statement}
 use Rattle.stepper.proofs.advance.waits.Tie as tie

@@ -7,13 +7,13 @@ use Prim.Native.Nat.{_-_, _≤_}
 use native.Mathlib.Omega.{arith}
 use lib.ListN.{getD}
 use Rattle.commands.specs.declared.admit.Admitted.the-variants.{Next}
+use Rattle.commands.specs.Every.{none}
 use Rattle.commands.specs.Prefix.{startOf}
 use Rattle.commands.specs.Admit.{SoundSoFar, sound}
 use Rattle.commands.proofs.Sound.{sound-start}
 use Rattle.ticket.specs.Fields.{blankMark, placeOf, listed, fieldsOf}
 use Rattle.ticket.specs.Write.{headerCommands, commandsAt, markCommands, allThen}
 use Rattle.ticket.specs.RoundTrip.{AllFit}
-use Rattle.ticket.specs.RoundTrip.AllFit.{none}
 use Rattle.ticket.proofs.Fitting.{fit-listed, fit-ticket}
 use Rattle.ticket.proofs.Place.{place-below}
 use Rattle.ticket.proofs.Checks.{sound-all, all-listed, all-checked}

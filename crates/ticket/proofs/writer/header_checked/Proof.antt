@@ -3,11 +3,11 @@
 use borrow.Author.Needs.{needs}
 use native.Mathlib.Omega.{arith}
 use Rattle.commands.specs.declared.command.Kind.the-variants.{Code, Data, Stack}
+use Rattle.commands.specs.Every.{none, more}
 use Rattle.commands.specs.Admit.{sound}
 use Rattle.commands.proofs.Sound.{sound-start, sound-then}
 use Rattle.ticket.specs.Write.{headerCommands}
 use Rattle.ticket.specs.RoundTrip.{AllFit}
-use Rattle.ticket.specs.RoundTrip.AllFit.{none, more}
 use Rattle.ticket.proofs.Fitting.{fits-window, fits-entry}
 use Rattle.ticket.proofs.writer.header_checked.Statement.{statement}
 use Rattle.ticket.proofs.writer.header_checked.Tie as tie

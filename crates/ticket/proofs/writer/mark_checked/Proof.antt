@@ -3,9 +3,9 @@
 use borrow.Author.Needs.{needs}
 use native.Mathlib.Omega.{arith}
 use Rattle.commands.specs.declared.command.Command.the-variants as Command
+use Rattle.commands.specs.Every.{none, more}
 use Rattle.commands.specs.Fits.{Fits}
 use Rattle.commands.proofs.Sound.{sound-then}
-use Rattle.ticket.specs.RoundTrip.AllFit.{none, more}
 use Rattle.ticket.proofs.Fitting.{fits-mark, fits-name}
 use Rattle.ticket.proofs.writer.mark_checked.Statement.{statement}
 use Rattle.ticket.proofs.writer.mark_checked.Tie as tie

@@ -1,9 +1,9 @@
 -- `holds` meets its contract: the answer is the one expected, and then the memory.
 -- Assumes nothing.
 use mathlib.Core.Path.{sym, _∙_}
+use mathlib.Core.Bool.{false≢true}
 use borrow.Author.Needs.{needs}
 use borrow.Author.Tests.{not-true, not-false}
-use Rattle.vector.proofs.Answers.{never}
 use Rattle.vector.proofs.Holding.{answers, remembers, holding}
 use Rattle.vector.proofs.compare.holds.Statement.{statement}
 use Rattle.vector.proofs.compare.holds.Tie as tie
@@ -16,7 +16,7 @@ returns c =
     let after = c .before .before .before .registers-in2 .ensures in
     let cycles = c .before .before .byte-in .ensures in
     let answer = at-step .step .ensures .0 in
-    (never, λ h. never (sym (not-true _ (c .if1 .taken)) ∙ c .before .is-done .ensures .1 (answer ∙ answers _ before loaded after cycles h)))
+    (λ e. absurd (false≢true e), λ h. absurd (false≢true (sym (not-true _ (c .if1 .taken)) ∙ c .before .is-done .ensures .1 (answer ∙ answers _ before loaded after cycles h))))
 
 returns-2 : tie.Need-returns-2
 returns-2 c =

@@ -1,7 +1,7 @@
 -- `is_done` meets its contract: by the case of the answer.
 -- Assumes nothing.
 use borrow.Author.Needs.{needs}
-use Rattle.vector.proofs.Answers.{never}
+use mathlib.Core.Bool.{false≢true}
 use Rattle.vector.proofs.Alike.{alike-done, done-alike, not-done}
 use Rattle.vector.proofs.compare.is_done.Statement.{statement}
 use Rattle.vector.proofs.compare.is_done.Tie as tie
@@ -12,7 +12,7 @@ returns c =
     rw (c .before .before .before .before .a .given .1) (alike-done _ _ _ _ _ (same .0), done-alike _ _ _ _ _ (same .1))
 
 returns-2 : tie.Need-returns-2
-returns-2 c = rw (c .enum-told .given .1) (never, λ e. absurd (not-done e))
+returns-2 c = rw (c .enum-told .given .1) (λ e. absurd (false≢true e), λ e. absurd (not-done e))
 
 pub is-done-spec : {M : Type 1} → statement M
 is-done-spec = tie.close (tie.spec (search needs) (search needs) (search needs) returns returns-2)

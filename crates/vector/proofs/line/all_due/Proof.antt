@@ -1,6 +1,7 @@
 -- `all_due` meets its contract. The invariant of its loop: the bytes before i are due. The measure is what is left of the line.
 -- Assumes nothing.
 use mathlib.Core.Path.{refl, sym, _∙_, subst}
+use mathlib.Core.Bool.{false≢true}
 use Prim.Native.Nat.{ℕ, _-_, _<_, _≤_}
 use native.Mathlib.Omega.{arith}
 use native.Mathlib.Nat.{le-antisymm}
@@ -9,7 +10,6 @@ use borrow.Author.Tests.{not-true, not-false}
 use borrow.Author.Count.{below-none, below-more}
 use lib.ListN.{length}
 use Rattle.vector.specs.Line.{Due}
-use Rattle.vector.proofs.Answers.{never}
 use Rattle.vector.proofs.line.all_due.Statement.{statement}
 use Rattle.vector.proofs.line.all_due.Tie as tie
 
@@ -26,7 +26,7 @@ returns : tie.Need-returns Inv-loop μ-loop
 returns c =
     let i = c .before .before .before .before .loop .i in
     let below = c .before .before .before .loop-test .taken in
-    (never, λ all. never (sym (not-true _ (c .if1 .taken)) ∙ c .before .is-due .ensures ∙ all i below))
+    (λ e. absurd (false≢true e), λ all. absurd (false≢true (sym (not-true _ (c .if1 .taken)) ∙ c .before .is-due .ensures ∙ all i below)))
 
 loop-again : tie.Need-loop-again Inv-loop μ-loop
 loop-again c =

@@ -1,36 +1,36 @@
 -- `shaped` meets its contract: each test that fails refutes a field, and where none does the fields are at hand.
 -- Assumes nothing.
 use borrow.Author.Needs.{needs}
+use mathlib.Core.Bool.{false≢true}
 use native.Mathlib.Omega.{arith}
-use Rattle.vector.proofs.Answers.{never}
 use Rattle.vector.proofs.Stores.{same-written}
 use Rattle.vector.proofs.line.shaped.Statement.{statement}
 use Rattle.vector.proofs.line.shaped.Tie as tie
 
 returns : tie.Need-returns
-returns c = (never, λ h. absurd (omega arith))
+returns c = (λ e. absurd (false≢true e), λ h. absurd (omega arith))
 
 returns-2 : tie.Need-returns-2
-returns-2 c = (never, λ h. absurd (omega arith))
+returns-2 c = (λ e. absurd (false≢true e), λ h. absurd (omega arith))
 
 returns-3 : tie.Need-returns-3
-returns-3 c = (never, λ h. absurd (omega arith))
+returns-3 c = (λ e. absurd (false≢true e), λ h. absurd (omega arith))
 
 returns-4 : tie.Need-returns-4
-returns-4 c = (never, λ h. absurd (omega arith))
+returns-4 c = (λ e. absurd (false≢true e), λ h. absurd (omega arith))
 
 returns-5 : tie.Need-returns-5
-returns-5 c = (never, λ h. absurd (omega arith))
+returns-5 c = (λ e. absurd (false≢true e), λ h. absurd (omega arith))
 
 returns-6 : tie.Need-returns-6
 returns-6 c =
     let w = same-written _ (c .before .before .before .before .before .byte-in2 .ensures) (c .before .byte-in3 .ensures) in
-    (never, λ h. absurd (omega (arith, w)))
+    (λ e. absurd (false≢true e), λ h. absurd (omega (arith, w)))
 
 returns-7 : tie.Need-returns-7
 returns-7 c =
     let w = same-written _ (c .before .before .before .before .before .before .byte-in2 .ensures) (c .before .before .byte-in3 .ensures) in
-    (never, λ h. absurd (omega (arith, w)))
+    (λ e. absurd (false≢true e), λ h. absurd (omega (arith, w)))
 
 returns-8 : tie.Need-returns-8
 returns-8 c =
