@@ -1,15 +1,13 @@
 -- The kind of an instruction, by what is found at its first two bytes.
 -- Assumes nothing.
-use mathlib.Core.Path.{_≡_, refl, sym, subst}
-use mathlib.Core.Bool.{Bool, true, false, cond as pick}
+use mathlib.Core.Path.{_≡_}
+use mathlib.Core.Bool.{Bool, true, false, cond}
 use mathlib.Core.List.{List}
-use Prim.Native.Nat.{ℕ, _+_, _<_, _≤_}
+use Prim.Native.Nat.{ℕ, _+_, _≤_}
 use native.Mathlib.Omega.{arith}
 use lib.Dec.{ltb}
-use borrow.Author.Tests.{eq-eqb, ne-eqb}
-use Rattle.opcodes.proofs.Rule.{below}
-use Rattle.opcodes.proofs.Says.{Said, there-says, nowhere-says}
-use Rattle.opcodes.specs.Tables.{costAt}
+use borrow.Author.Tests.{ne-eqb}
+use Rattle.opcodes.proofs.Says.{Said, there-says, nowhere-says, none-there}
 use Rattle.opcodes.specs.Decode.{Bytes, opcodeSize, instructionOf, decodeAt, foundOf}
 use Rattle.opcodes.specs.declared.decode.Found.the-variants as Found
 use Rattle.stepper.specs.Step.{fetched}
@@ -19,7 +17,7 @@ small : (p : ℕ) → opcodeSize p ≤ 2
 unfolding opcodeSize
 small p = by (ltb p 256)
   where
-    by : (b : Bool) → pick b 1 2 ≤ 2
+    by : (b : Bool) → cond b 1 2 ≤ 2
     by true = omega arith
     by false = omega arith
 
@@ -28,18 +26,12 @@ module _ (m : List ℕ) (pc : ℕ) where
   bytes = fetched m pc
 
   pub nowhere-kind : foundOf (bytes 0) (bytes 1) ≡ Found.Nothing → kindOf m pc ≡ plain
-  unfolding kindOf decodeAt
-  nowhere-kind h = simp (eq-eqb _ _ (nowhere-says _ _ h))
+  unfolding kindOf
+  nowhere-kind h = simp (none-there _ bytes (nowhere-says _ _ h))
 
   module _ {p s e : ℕ} (h : foundOf (bytes 0) (bytes 1) ≡ Found.At p s e) where
     says : Said (bytes 0) (bytes 1) p s e
     says = there-says _ _ p s e h
-
-    pub in-tables : p < 1024
-    in-tables = below p (says .3)
-
-    pub entry : e ≡ costAt p
-    entry = sym (says .2)
 
     pub size-small : s ≤ 2
     size-small = rw (says .1) at (small p)

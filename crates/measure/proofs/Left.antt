@@ -1,13 +1,13 @@
 -- What is left of a look: nothing once it has ended, else a turn and the rest.
 -- Assumes nothing.
 use mathlib.Core.Path.{_≡_, refl, sym, ap, _∙_}
-use mathlib.Core.Bool.{Bool, true, false, cond as pick}
+use mathlib.Core.Bool.{Bool, true, false, cond}
 use mathlib.Core.List.{List}
 use Prim.Native.Nat.{ℕ, zero, suc}
 use Rattle.measure.specs.declared.look.Look.{Look}
 use Rattle.measure.specs.Look.{Turned, turned, turnOf, lookFrom}
 
-other : (b : Bool) (x y : Look) → b ≡ false → pick b x y ≡ y
+other : (b : Bool) (x y : Look) → b ≡ false → cond b x y ≡ y
 other b x y h = rw h
 
 module _ (l : Look) (m : List ℕ) where

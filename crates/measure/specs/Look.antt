@@ -1,7 +1,7 @@
 -- What a mark claims, measured along a run: the cycles and the stack bytes that a routine takes from an instruction to its own return (document 01, "The ticket": cost, depth, need).
 -- Assumes nothing.
 use Prim.Native.Nat.{ℕ, zero, suc, _+_, _-_}
-use mathlib.Core.Bool.{Bool, true, false, cond as pick}
+use mathlib.Core.Bool.{Bool, true, false, cond}
 use mathlib.Core.List.{List}
 use lib.Dec.{eqb, ltb}
 use Rattle.registers.specs.Word.{less}
@@ -27,7 +27,7 @@ overOf l = record { regs = l .regs; lowest = l .lowest; pending = l .pending; le
 
 -- the lower of two addresses
 abbrev pub lowerOf : ℕ → ℕ → ℕ
-lowerOf a b = pick (ltb a b) a b
+lowerOf a b = cond (ltb a b) a b
 
 -- the calls that have not returned after an instruction of a kind
 abbrev pub pendingAfter : Kind → ℕ → ℕ
@@ -47,7 +47,7 @@ onOf d l q k = record { regs = q; lowest = lowerOf (l .lowest) (q .sp); pending 
 
 -- one that the budget does not cover, or that is refused, ends the look
 abbrev pub afterOf : Kind → Look → Answer → Look
-afterOf d l (done q k) = pick (ltb (l .left) (k .0)) (overOf l) (onOf d l q (k .0))
+afterOf d l (done q k) = cond (ltb (l .left) (k .0)) (overOf l) (onOf d l q (k .0))
 afterOf d l (refused n p) = overOf l
 
 pub record Turned : Type 0 where
@@ -63,7 +63,7 @@ turnOf l m = let s = stepOf (l .regs) m in turned (afterOf (kindOf m (l .regs .p
 -- at most n instructions
 unfoldable pub lookFrom : ℕ → Look → List ℕ → Look
 lookFrom zero l m = l
-lookFrom (suc n) l m = pick (l .over) l (let t = turnOf l m in lookFrom n (t .look) (t .memory))
+lookFrom (suc n) l m = cond (l .over) l (let t = turnOf l m in lookFrom n (t .look) (t .memory))
 
 -- every instruction takes a cycle or more, so as many turns as there are cycles in the budget are enough
 abbrev pub lookOf : Registers → List ℕ → ℕ → Look

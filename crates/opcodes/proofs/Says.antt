@@ -1,6 +1,6 @@
 -- What is found says the place, the size of the opcode and the entry; and where the table has 0 there is no instruction.
 -- Assumes nothing.
-use mathlib.Core.Path.{_≡_, refl, ap, _∙_}
+use mathlib.Core.Path.{_≡_, refl, sym, ap, _∙_}
 use mathlib.Core.Bool.{Bool, true, false, cond}
 use Prim.Native.Nat.{ℕ, _<_}
 use native.Mathlib.Omega.{arith}
@@ -43,6 +43,9 @@ module _ (first second : ℕ) where
 
   pub in-tables : {p s e : ℕ} → foundOf first second ≡ Found.At p s e → p < 1024
   in-tables {p} {s} {e} h = below p (there-says p s e h .3)
+
+  pub entry : {p s e : ℕ} → foundOf first second ≡ Found.At p s e → e ≡ costAt p
+  entry {p} {s} {e} h = sym (there-says p s e h .2)
 
 pub none-there : (p : ℕ) (f : Bytes) → costAt p ≡ 0 → decodeAt p f ≡ Nothing
 unfolding decodeAt

@@ -1,10 +1,10 @@
 -- The shape and the size of an instruction, by what is found at its first two bytes.
 -- Assumes nothing.
-use mathlib.Core.Path.{_≡_, sym}
+use mathlib.Core.Path.{_≡_}
 use Prim.Native.Nat.{ℕ, _+_}
 use borrow.Author.Tests.{ne-eqb}
 use Rattle.opcodes.proofs.Says.{Said, there-says, nowhere-says, none-there}
-use Rattle.opcodes.specs.Tables.{costAt, lengthAt}
+use Rattle.opcodes.specs.Tables.{lengthAt}
 use Rattle.opcodes.specs.Decode.{Bytes, instructionOf, decodeAt, foundOf}
 use Rattle.opcodes.specs.declared.decode.Found.the-variants as Found
 use Rattle.rules.specs.Shape.{nothing, shapeIn, shapeOf, sizeOf}
@@ -21,9 +21,6 @@ module _ (f : Bytes) where
   module _ {p s e : ℕ} (h : foundOf (f 0) (f 1) ≡ Found.At p s e) where
     says : Said (f 0) (f 1) p s e
     says = there-says _ _ p s e h
-
-    pub entry : e ≡ costAt p
-    entry = sym (says .2)
 
     pub there-shape : (a : ℕ) → shapeOf f a ≡ shapeIn p (instructionOf p (f s) (f (s + 1)) (f (s + 2))) a
     unfolding shapeOf decodeAt

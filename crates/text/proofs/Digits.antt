@@ -1,7 +1,7 @@
 -- Decimal digits: how many there are, and that dividing by 10 again and again yields them from the last to the first.
 -- Assumes nothing.
 use mathlib.Core.Path.{_≡_, refl}
-use mathlib.Core.Bool.{Bool, true, false, cond as pick}
+use mathlib.Core.Bool.{Bool, true, false, cond}
 use mathlib.Core.List.{List, [], _∷_}
 use Prim.Native.Nat.{ℕ, zero, suc, _+_, _/_, _%_, _^_, _≤_, _<_}
 use native.Mathlib.Nat.{mod-eq-of-lt, pow-suc, div-lt-iff-lt-mul}
@@ -14,7 +14,7 @@ use Rattle.text.specs.Number.{decimalBefore, decimalOf}
 -- how many digits n has, at most `most`
 abbrev pub countOf : (most n : ℕ) → ℕ
 countOf zero n = 0
-countOf (suc k) n = pick (ltb n 10) 1 (suc (countOf k (n / 10)))
+countOf (suc k) n = cond (ltb n 10) 1 (suc (countOf k (n / 10)))
 
 length-before : (k n : ℕ) (l : List ℕ) → length (decimalBefore k n l) ≡ countOf k n + length l
 length-before zero n l = omega arith
@@ -23,7 +23,7 @@ length-before (suc k) n l = by (ltb n 10) (length-before k (n / 10) ((48 + n % 1
     rest : List ℕ
     rest = decimalBefore k (n / 10) ((48 + n % 10) ∷ l)
 
-    by : (b : Bool) → length rest ≡ countOf k (n / 10) + suc (length l) → length (pick b ((48 + n) ∷ l) rest) ≡ pick b 1 (suc (countOf k (n / 10))) + length l
+    by : (b : Bool) → length rest ≡ countOf k (n / 10) + suc (length l) → length (cond b ((48 + n) ∷ l) rest) ≡ cond b 1 (suc (countOf k (n / 10))) + length l
     by true e = omega arith
     by false e = omega arith
 
@@ -31,7 +31,7 @@ count-most : (k n : ℕ) → countOf k n ≤ k
 count-most zero n = omega arith
 count-most (suc k) n = by (ltb n 10) (count-most k (n / 10))
   where
-    by : {m : ℕ} (b : Bool) → m ≤ k → pick b 1 (suc m) ≤ suc k
+    by : {m : ℕ} (b : Bool) → m ≤ k → cond b 1 (suc m) ≤ suc k
     by true h = omega arith
     by false h = omega arith
 
@@ -54,7 +54,7 @@ last-digits (suc k) n l = by (ltb n 10) (ltb-true n 10) (last-digits k (n / 10) 
     rest : List ℕ
     rest = decimalBefore k (n / 10) ((48 + n % 10) ∷ l)
 
-    by : (b : Bool) → (b ≡ true → n < 10) → rest ≡ lastBefore (countOf k (n / 10)) (n / 10) ((48 + n % 10) ∷ l) → pick b ((48 + n) ∷ l) rest ≡ lastBefore (pick b 1 (suc (countOf k (n / 10)))) n l
+    by : (b : Bool) → (b ≡ true → n < 10) → rest ≡ lastBefore (countOf k (n / 10)) (n / 10) ((48 + n % 10) ∷ l) → cond b ((48 + n) ∷ l) rest ≡ lastBefore (cond b 1 (suc (countOf k (n / 10)))) n l
     by true h e = rw (mod-eq-of-lt (h refl))
     by false h e = e
 

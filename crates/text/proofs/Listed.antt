@@ -1,13 +1,13 @@
 -- The listing by what is found at the first two bytes, and that it depends on five bytes alone.
 -- Assumes nothing.
-use mathlib.Core.Path.{_≡_, refl, sym}
-use mathlib.Core.Bool.{Bool, true, false, cond as pick}
+use mathlib.Core.Path.{_≡_, refl}
+use mathlib.Core.Bool.{Bool, true, false, cond}
 use mathlib.Core.Logic.{_⊎_, inl, inr}
 use Prim.Native.Nat.{ℕ, _<_}
 use lib.Dec.{eqb, ltb}
 use borrow.Author.Tests.{eq-eqb, ne-eqb}
-use Rattle.opcodes.proofs.Rule.{below, entry-word}
-use Rattle.opcodes.proofs.Says.{Said, there-says, nowhere-says}
+use Rattle.opcodes.proofs.Rule.{entry-word}
+use Rattle.opcodes.proofs.Says.{Said, there-says, nowhere-says, entry}
 use Rattle.opcodes.specs.Tables.{costAt}
 use Rattle.opcodes.specs.Decode.{Bytes, placeIn, opcodeSize, foundOf}
 use Rattle.opcodes.specs.declared.decode.Found.the-variants as Found
@@ -19,7 +19,7 @@ pub one-or-two : (p : ℕ) → (opcodeSize p ≡ 1) ⊎ (opcodeSize p ≡ 2)
 unfolding opcodeSize
 one-or-two p = by (ltb p 256)
   where
-    by : (b : Bool) → (_≡_ {A = ℕ} (pick b 1 2) 1) ⊎ (_≡_ {A = ℕ} (pick b 1 2) 2)
+    by : (b : Bool) → (_≡_ {A = ℕ} (cond b 1 2) 1) ⊎ (_≡_ {A = ℕ} (cond b 1 2) 2)
     by true = inl refl
     by false = inr refl
 
@@ -32,14 +32,8 @@ module _ (f : Bytes) where
     says : Said (f 0) (f 1) p s e
     says = there-says _ _ p s e h
 
-    pub in-tables : p < 1024
-    in-tables = below p (says .3)
-
-    pub entry : e ≡ costAt p
-    entry = sym (says .2)
-
     pub narrow : e < 65536
-    narrow = rw entry (entry-word p)
+    narrow = rw (entry _ _ h) (entry-word p)
 
     pub size : (s ≡ 1) ⊎ (s ≡ 2)
     size = rw (← says .1) (one-or-two p)
@@ -50,7 +44,7 @@ module _ (f : Bytes) where
 
 -- by what the two tests of the definition say
 abbrev byTests : (none small : Bool) (pc place : ℕ) → Bytes → Listing
-byTests none small pc place f = pick none (noListing f) (listingAt pc place (pick small 1 2) f)
+byTests none small pc place f = cond none (noListing f) (listingAt pc place (cond small 1 2) f)
 
 -- so a memory or an image is listed by the five bytes from an address on
 pub by-five : (pc : ℕ) (f : Bytes) → listingOf pc f ≡ listingOf pc (five (f 0) (f 1) (f 2) (f 3) (f 4))

@@ -2,7 +2,7 @@
 -- Assumes nothing.
 use Prim.Native.Nat.{ℕ, _+_}
 use mathlib.Core.List.{List, [], _∷_, _++_}
-use mathlib.Core.Bool.{Bool, cond as pick}
+use mathlib.Core.Bool.{Bool, cond}
 use lib.Dec.{eqb}
 use lib.ListN.{take, getD}
 use Rattle.registers.specs.Word.{plus}
@@ -26,7 +26,7 @@ bytesText n f = padded 14 (spaced (take n (f 0 ∷ f 1 ∷ f 2 ∷ f 3 ∷ f 4 �
 
 -- a byte's column in the code: its digits, or spaces where the instruction has ended
 abbrev pub columnOf : Bool → ℕ → List ℕ
-columnOf shown b = pick shown (byteHex b) (ascii "  ")
+columnOf shown b = cond shown (byteHex b) (ascii "  ")
 
 -- no instruction: the first byte alone
 abbrev pub noListing : Bytes → Listing
@@ -43,7 +43,7 @@ listingAt pc place n f =
 
 -- no instruction where the table has 0
 unfoldable pub listingOf : ℕ → Bytes → Listing
-listingOf pc f = let p = placeIn f in pick (eqb (costAt p) 0) (noListing f) (listingAt pc p (opcodeSize p) f)
+listingOf pc f = let p = placeIn f in cond (eqb (costAt p) 0) (noListing f) (listingAt pc p (opcodeSize p) f)
 
 -- five bytes
 abbrev pub five : (a b c d e : ℕ) → Bytes

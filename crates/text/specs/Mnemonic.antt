@@ -2,7 +2,7 @@
 -- Assumes nothing.
 use Prim.Native.Nat.{ℕ, _%_}
 use Prim.Native.String.{String}
-use mathlib.Core.Bool.{cond as pick}
+use mathlib.Core.Bool.{cond}
 use mathlib.Core.List.{List, [], _∷_, _++_}
 use lib.ListN.{getD}
 use Rattle.opcodes.specs.Fits.{relativeMode}
@@ -107,7 +107,7 @@ branchName k = getD branchNames (k % 16) (name "")
 
 -- a relative call is BSR
 abbrev pub callName : Mode → List ℕ
-callName m = pick (relativeMode m) (name "BSR") (name "JSR")
+callName m = cond (relativeMode m) (name "BSR") (name "JSR")
 
 unfoldable pub mnemonicOf : Action → Mode → List ℕ
 mnemonicOf (Inherent i) m = inherentName i

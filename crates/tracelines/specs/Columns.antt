@@ -2,7 +2,7 @@
 -- Assumes nothing.
 use Prim.Native.Nat.{ℕ}
 use Prim.Native.Char.{Char, code}
-use mathlib.Core.Bool.{Bool, cond as pick}
+use mathlib.Core.Bool.{Bool, cond}
 use mathlib.Core.List.{List, [], _∷_, _++_}
 use Rattle.registers.specs.Flags.{bit, low}
 use Rattle.registers.specs.declared.Registers.{Registers}
@@ -16,7 +16,7 @@ listingText pc l = hexOf pc ++ (ascii " " ++ (l .bytes ++ (ascii " " ++ (l .mnem
 
 -- a flag's letter where its bit is set, else a dash
 abbrev pub flagOf : Bool → ℕ → ℕ
-flagOf on letter = pick on letter (code "-")
+flagOf on letter = cond on letter (code "-")
 
 -- S X H I N Z V C, from bit 7 to bit 0
 unfoldable pub flagsText : ℕ → List ℕ

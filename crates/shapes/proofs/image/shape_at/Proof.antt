@@ -5,8 +5,8 @@ use mathlib.Core.Path.{_≡_, sym, _∙_}
 use native.Mathlib.Nat.{add-zero, add-assoc}
 use Rattle.opcodes.specs.Decode.{Bytes, foundOf}
 use Rattle.rules.specs.Marks.{imageFrom}
-use Rattle.opcodes.proofs.Says.{in-tables}
-use Rattle.shapes.proofs.Found.{nowhere-shape, nowhere-size, entry, there-shape, there-size}
+use Rattle.opcodes.proofs.Says.{in-tables, entry}
+use Rattle.shapes.proofs.Found.{nowhere-shape, nowhere-size, there-shape, there-size}
 use Rattle.shapes.proofs.image.shape_at.Statement.{statement}
 use Rattle.shapes.proofs.image.shape_at.Tie as tie
 
@@ -25,7 +25,7 @@ shape-found-requires : tie.Need-shape-found-requires
 shape-found-requires c κs =
     let p = c .before .before .before .before in
     let d = p .before .before in
-    let h = found d ∙ p .place .given .1 in (in-tables _ _ h, (entry (bytes d) h, called d .pre .1 .1))
+    let h = found d ∙ p .place .given .1 in (in-tables _ _ h, (entry _ _ h, called d .pre .1 .1))
 
 returns : tie.Need-returns
 returns c =

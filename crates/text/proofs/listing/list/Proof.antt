@@ -6,7 +6,8 @@ use mathlib.Core.Logic.{⊎-elim}
 use native.Mathlib.Omega.{arith}
 use Rattle.opcodes.specs.Decode.{Bytes}
 use Rattle.text.specs.Listing.{five}
-use Rattle.text.proofs.Listed.{nowhere, in-tables, entry, narrow, size, there}
+use Rattle.opcodes.proofs.Says.{in-tables, entry}
+use Rattle.text.proofs.Listed.{nowhere, narrow, size, there}
 use Rattle.text.proofs.listing.list.Statement.{statement}
 use Rattle.text.proofs.listing.list.Tie as tie
 
@@ -27,13 +28,13 @@ listed-requires : tie.Need-listed-requires
 listed-requires c κs =
     let p = c .before .before .before .before in
     let d = p .before .before in
-    let h = sym (d .found-of .ensures) ∙ p .place .given .1 in in-tables (bytes d) h
+    let h = sym (d .found-of .ensures) ∙ p .place .given .1 in in-tables _ _ h
 
 listed-requires-2 : tie.Need-listed-requires-2
 listed-requires-2 c κs =
     let p = c .before .before .before .before in
     let d = p .before .before in
-    let h = sym (d .found-of .ensures) ∙ p .place .given .1 in in-tables (bytes d) h
+    let h = sym (d .found-of .ensures) ∙ p .place .given .1 in in-tables _ _ h
 
 returns : tie.Need-returns
 returns c =
@@ -47,7 +48,7 @@ returns-2 c =
     let p = u .before .before .before in
     let d = p .before .before in
     let h = sym (d .found-of .ensures) ∙ p .place .given .1 in
-    simp (there (bytes d) h, c .listed .ensures, u .before .bytes2 .ensures, u .up .ensures, entry (bytes d) h, c .before .if1 .taken)
+    simp (there (bytes d) h, c .listed .ensures, u .before .bytes2 .ensures, u .up .ensures, entry _ _ h, c .before .if1 .taken)
 
 returns-3 : tie.Need-returns-3
 returns-3 c =
@@ -56,7 +57,7 @@ returns-3 c =
     let d = p .before .before in
     let h = sym (d .found-of .ensures) ∙ p .place .given .1 in
     let two = ⊎-elim (λ e. absurd (c .before .if1 .left e)) (λ e. e) (size (bytes d) h) in
-    simp (there (bytes d) h, c .listed2 .ensures, u .before .bytes2 .ensures, u .up .ensures, entry (bytes d) h, two)
+    simp (there (bytes d) h, c .listed2 .ensures, u .before .bytes2 .ensures, u .up .ensures, entry _ _ h, two)
 
 pub list-spec : {M : Type 1} → statement M
 list-spec =
