@@ -1,7 +1,8 @@
 -- The fixed columns of a line: an instruction, and the registers.
 -- Assumes nothing.
 use Prim.Native.Nat.{ℕ}
-use Prim.Native.Char.{Char, code}
+use Prim.Native.Char.{code}
+use Prim.Native.String.{String}
 use mathlib.Core.Bool.{Bool, cond}
 use mathlib.Core.List.{List, [], _∷_, _++_}
 use Rattle.registers.specs.Flags.{bit, low}
@@ -24,10 +25,16 @@ flagsText n =
     flagOf (bit 7 n) (code "S") ∷ flagOf (bit 6 n) (code "X") ∷ flagOf (bit 5 n) (code "H") ∷ flagOf (bit 4 n) (code "I")
     ∷ flagOf (bit 3 n) (code "N") ∷ flagOf (bit 2 n) (code "Z") ∷ flagOf (bit 1 n) (code "V") ∷ flagOf (low n) (code "C") ∷ []
 
+-- a register's name and its digits
+abbrev pub byteField : String → ℕ → List ℕ
+byteField name v = ascii name ++ byteHex v
+
+abbrev pub wordField : String → ℕ → List ℕ
+wordField name v = ascii name ++ hexOf v
+
 unfoldable pub registersText : Registers → List ℕ
 registersText r =
-    ascii " A=" ++ (byteHex (r .a) ++ (ascii " B=" ++ (byteHex (r .b) ++ (ascii " X=" ++ (hexOf (r .x) ++ (ascii " Y=" ++ (hexOf (r .y)
-    ++ (ascii " SP=" ++ (hexOf (r .sp) ++ (ascii " " ++ flagsText (r .flags)))))))))))
+    byteField " A=" (r .a) ++ (byteField " B=" (r .b) ++ (wordField " X=" (r .x) ++ (wordField " Y=" (r .y) ++ (wordField " SP=" (r .sp) ++ (ascii " " ++ flagsText (r .flags))))))
 
 -- the line of an instruction alone
 unfoldable pub placeLine : ℕ → Listing → List ℕ

@@ -2,6 +2,8 @@
 ghost use mathlib.Core.Path.{_≡_};
 ghost use mathlib.Core.List.{_++_};
 ghost use Prim.Native.Nat.{_+_, _≤_};
+ghost use lib.ListN.{length};
+ghost use Rattle.text.specs.Number.{byteHex, hexOf};
 ghost use Rattle.tracelines.specs.Line.{written};
 ghost use Rattle.tracelines.specs.Columns.{listingText, flagOf, flagsText, registersText};
 use crate::line::Line;
@@ -52,61 +54,33 @@ fn flags(n: u8) -> [u8; 8]
     ]
 }
 
+fn with_byte(l: Line, label: &[u8], v: u8) -> Line
+    requires { ⌜ l .len + length (now label) + 2 ≤ 256 ⌝ }
+    ensures { λ r. ⌜ (written r ≡ written l ++ (now (label .entry) ++ byteHex v)) × (r .len ≡ l .len + length (now (label .entry)) + 2) ⌝ }
+{
+    let h = hex2(v);
+    with_text(with_text(l, label), &h)
+}
+
+fn with_word(l: Line, label: &[u8], v: u16) -> Line
+    requires { ⌜ l .len + length (now label) + 4 ≤ 256 ⌝ }
+    ensures { λ r. ⌜ (written r ≡ written l ++ (now (label .entry) ++ hexOf v)) × (r .len ≡ l .len + length (now (label .entry)) + 4) ⌝ }
+{
+    let h = hex4(v);
+    with_text(with_text(l, label), &h)
+}
+
 // A, B, X, Y, SP and the flags, as an instruction leaves them.
 pub fn with_registers(l: Line, r: Registers) -> Line
     requires { ⌜ l .len + 41 ≤ 256 ⌝ }
     ensures { λ q. ⌜ (written q ≡ written l ++ registersText r) × (q .len ≡ l .len + 41) ⌝ }
 {
-    let a = hex2(r.a);
-    let b = hex2(r.b);
-    let x = hex4(r.x);
-    let y = hex4(r.y);
-    let s = hex4(r.sp);
-    let f = flags(r.flags);
-    with_text(
-        l,
-        &[
-            b' ',
-            b'A',
-            b'=',
-            a[0],
-            a[1],
-            b' ',
-            b'B',
-            b'=',
-            b[0],
-            b[1],
-            b' ',
-            b'X',
-            b'=',
-            x[0],
-            x[1],
-            x[2],
-            x[3],
-            b' ',
-            b'Y',
-            b'=',
-            y[0],
-            y[1],
-            y[2],
-            y[3],
-            b' ',
-            b'S',
-            b'P',
-            b'=',
-            s[0],
-            s[1],
-            s[2],
-            s[3],
-            b' ',
-            f[0],
-            f[1],
-            f[2],
-            f[3],
-            f[4],
-            f[5],
-            f[6],
-            f[7],
-        ],
-    )
+    let codes = flags(r.flags);
+    let a = with_byte(l, b" A=", r.a);
+    let b = with_byte(a, b" B=", r.b);
+    let c = with_word(b, b" X=", r.x);
+    let d = with_word(c, b" Y=", r.y);
+    let e = with_word(d, b" SP=", r.sp);
+    let f = with_text(e, b" ");
+    with_text(f, &codes)
 }
