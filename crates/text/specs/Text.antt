@@ -1,7 +1,7 @@
 -- Texts as bytes: a text in ASCII, and a text padded with spaces.
 -- Assumes nothing.
 use Prim.Native.Nat.{ℕ, zero, suc}
-use Prim.Native.Char.{Char, code}
+use Prim.Native.Char.{code}
 use Prim.Native.String.{String, [] as nothing, _∷_ as _then_}
 use mathlib.Core.List.{List, [], _∷_}
 

@@ -1,7 +1,7 @@
 -- `turn` meets its contract: the step's own answer and memory, and what the kind makes of them.
 -- Assumes nothing.
 use borrow.Author.Needs.{needs}
-use mathlib.Core.Path.{_≡_, refl, sym, ap, _∙_}
+use mathlib.Core.Path.{ap}
 use native.Mathlib.Omega.{arith}
 use Rattle.stepper.specs.Answer.{answerOf}
 use Rattle.measure.specs.Look.{turnOf}

@@ -1,7 +1,6 @@
 -- `operand` meets its contract: mode by mode, the pattern with its digits is the text.
 -- Assumes nothing.
 use borrow.Author.Needs.{needs}
-use mathlib.Core.Path.{_≡_}
 use Prim.Native.Nat.{ℕ}
 use Rattle.text.proofs.Patterns.{inherent, immediate8, immediate16, direct, extended, indexed-x, indexed-y, relative, mask-direct, mask-x, mask-y, mask-branch-direct, mask-branch-x, mask-branch-y}
 use Rattle.text.proofs.operand.operand.Statement.{statement}

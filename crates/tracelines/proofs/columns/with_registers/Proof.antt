@@ -5,7 +5,6 @@ use native.Mathlib.Omega.{arith}
 use mathlib.Core.Path.{ap, _∙_}
 use mathlib.Core.List.{List, _++_}
 use Prim.Native.Nat.{ℕ}
-use lib.ListN.{length}
 use Rattle.text.specs.Text.{ascii}
 use Rattle.tracelines.specs.Line.{written}
 use Rattle.tracelines.specs.Columns.{flagsText, byteField, wordField, registersText}

@@ -1,7 +1,6 @@
 -- `put_home` meets its contract.
 -- Assumes nothing.
 use borrow.Author.Needs.{needs}
-use mathlib.Core.Path.{_≡_, refl, sym, _∙_}
 use Rattle.tracelines.proofs.last.put_home.Statement.{statement}
 use Rattle.tracelines.proofs.last.put_home.Tie as tie
 

@@ -1,7 +1,6 @@
 -- `put_spent` meets its contract.
 -- Assumes nothing.
 use borrow.Author.Needs.{needs}
-use mathlib.Core.Path.{_≡_, refl, sym, _∙_}
 use Rattle.tracelines.proofs.last.put_spent.Statement.{statement}
 use Rattle.tracelines.proofs.last.put_spent.Tie as tie
 

@@ -1,6 +1,6 @@
 -- `empty` meets its contract.
 -- Assumes nothing.
-use mathlib.Core.Path.{_≡_, refl, sym, _∙_}
+use mathlib.Core.Path.{refl}
 use Rattle.tracelines.specs.Line.{written}
 use Rattle.tracelines.proofs.line.empty.Statement.{statement}
 use Rattle.tracelines.proofs.line.empty.Tie as tie

@@ -1,7 +1,6 @@
 -- `put_place` meets its contract.
 -- Assumes nothing.
 use borrow.Author.Needs.{needs}
-use mathlib.Core.Path.{_≡_, refl, sym, _∙_}
 use Rattle.tracelines.proofs.place.put_place.Statement.{statement}
 use Rattle.tracelines.proofs.place.put_place.Tie as tie
 

@@ -1,7 +1,6 @@
 -- `put_step` meets its contract.
 -- Assumes nothing.
 use borrow.Author.Needs.{needs}
-use mathlib.Core.Path.{_≡_, refl, sym, _∙_}
 use Rattle.tracelines.proofs.step.put_step.Statement.{statement}
 use Rattle.tracelines.proofs.step.put_step.Tie as tie
 

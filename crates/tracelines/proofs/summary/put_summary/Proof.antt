@@ -1,7 +1,6 @@
 -- `put_summary` meets its contract.
 -- Assumes nothing.
 use borrow.Author.Needs.{needs}
-use mathlib.Core.Path.{_≡_, refl, sym, _∙_}
 use Rattle.tracelines.proofs.summary.put_summary.Statement.{statement}
 use Rattle.tracelines.proofs.summary.put_summary.Tie as tie
 
