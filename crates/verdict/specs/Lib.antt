@@ -1,3 +1,4 @@
 pub mod Promise
 pub mod Start
+pub mod Admission
 pub mod Routine

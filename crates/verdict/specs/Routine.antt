@@ -10,14 +10,14 @@ use Rattle.registers.specs.declared.Cycles.{Cycles}
 use Rattle.registers.specs.declared.Data.{Data}
 use Rattle.registers.specs.declared.Registers.{Registers}
 use Rattle.registers.specs.declared.StackBytes.{StackBytes}
-use Rattle.ticket.specs.Fields.{Fields, Outcome, read, refused}
-use Rattle.ticket.specs.Read.{refusal, readOf}
-use Rattle.rules.specs.declared.Verdict.{Verdict}
-use Rattle.rules.specs.declared.Verdict.the-variants.{Accept, Refuse}
+use Rattle.commands.specs.declared.prefix.Header.{Header}
+use Rattle.ticket.specs.Read.{refusal}
 use Rattle.rules.specs.Rules.{Certified}
-use Rattle.rules.specs.Checks.{judgedOf}
 use Rattle.rules.specs.Claim.{ComesHome}
 use Rattle.verdict.specs.Start.{startedOf, loadedOf}
+use Rattle.verdict.specs.Admission.{admittedOf}
+use Rattle.verdict.specs.declared.Admission.{Admission}
+use Rattle.verdict.specs.declared.Admission.the-variants as Admission
 use Rattle.verdict.specs.declared.Started.{Started}
 use Rattle.verdict.specs.declared.Started.the-variants.{At, Refused}
 
@@ -29,18 +29,13 @@ pub record Begun : Type 0 where
 abbrev pub begun : Started → List ℕ → Begun
 begun a m = record { answer = a; memory = m }
 
--- by the verdict on a ticket that was read
-abbrev pub begunIf : Verdict → Fields → Data → List ℕ → List ℕ → Begun
-begunIf (Refuse r) f d image m = begun (Refused r) m
-begunIf (Accept entry cost stack) f d image m = begun (startedOf (f .header) d image m) (loadedOf (f .header) image m)
-
-abbrev pub begunBy : Outcome → Data → List ℕ → List ℕ → Begun
-begunBy (refused r) d image m = begun (Refused r) m
-begunBy (read f) d image m = begunIf (judgedOf f image) f d image m
+abbrev pub begunBy : Admission → Data → List ℕ → List ℕ → Begun
+begunBy (Admission.Refused r) d image m = begun (Refused r) m
+begunBy (Admission.Granted h cost stack) d image m = begun (startedOf h d image m) (loadedOf h image m)
 
 -- 21 is checked first; then what the verdict refuses is refused, and alters nothing
 unfoldable pub begunOf : List ℕ → List ℕ → Data → List ℕ → Begun
-begunOf ticket image d m = cond (eqb (length m) 65536) (begunBy (readOf ticket) d image m) (begun (Refused (refusal 21 0)) m)
+begunOf ticket image d m = cond (eqb (length m) 65536) (begunBy (admittedOf ticket image) d image m) (begun (Refused (refusal 21 0)) m)
 
 -- from the registers and the memory that are answered, the routine comes home
 pub record Certain (ticket image : List ℕ) (r : Registers) (m : List ℕ) : Type 0 where
@@ -53,3 +48,14 @@ pub record Certain (ticket image : List ℕ) (r : Registers) (m : List ℕ) : Ty
 abbrev pub StartedComesHome : List ℕ → List ℕ → Data → List ℕ → Type 0
 StartedComesHome ticket image d m =
     (r : Registers) → begunOf ticket image d m .answer ≡ At r → Certain ticket image r (begunOf ticket image d m .memory)
+
+-- a start by the header h succeeds and comes home, within these figures
+abbrev pub StartComesHome : List ℕ → List ℕ → Header → Cycles → StackBytes → Data → List ℕ → Type 0
+StartComesHome ticket image h cost stack d m =
+    (r : Registers) × (startedOf h d image m ≡ At r) × (C : Certain ticket image r (loadedOf h image m)) × (C .cost ≡ cost) × (C .stack ≡ stack)
+
+-- what is admitted can be started again and again without being judged: every start by its header comes home
+abbrev pub AdmittedComesHome : List ℕ → List ℕ → Type 0
+AdmittedComesHome ticket image =
+    (h : Header) (cost : Cycles) (stack : StackBytes) → admittedOf ticket image ≡ Admission.Granted h cost stack
+    → (d : Data) (m : List ℕ) → length m ≡ 65536 → StartComesHome ticket image h cost stack d m

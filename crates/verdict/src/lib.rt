@@ -1,9 +1,10 @@
-// The verdict on a routine, and its start. `verdict`, `start` and `start_routine` are the interface: they take any bytes, any header and any memory.
+// The verdict on a routine, and its start. `verdict`, `admit`, `start` and `start_routine` are the interface: they take any bytes, any header and any memory.
 ghost use mathlib.Core.Path.{_≡_};
 ghost use Rattle.rules.specs.Checks.{verdictOf};
 ghost use Rattle.verdict.specs.Promise.{Promised};
 ghost use Rattle.verdict.specs.Start.{startedOf, loadedOf, StartsAsClaimed};
-ghost use Rattle.verdict.specs.Routine.{begun, begunOf, StartedComesHome};
+ghost use Rattle.verdict.specs.Admission.{admittedOf};
+ghost use Rattle.verdict.specs.Routine.{begun, begunOf, StartedComesHome, AdmittedComesHome};
 use crate::load::fill;
 use crate::load::last_of;
 use crate::load::put_home;
@@ -11,26 +12,48 @@ use checks::judge::judge;
 use commands::command::Refusal;
 use commands::command::refuse;
 use commands::prefix::Header;
+use registers::Cycles;
 use registers::Data;
 use registers::Registers;
+use registers::StackBytes;
 use rules::Verdict;
 use ticket::answer::Answer;
 use ticket::read;
 
 mod load; // the image and home's bytes into memory
 
-// Accepts if and only if every ticket rule holds; else the first cause in document 01's order, with its place. An accepted routine comes home.
-pub fn verdict(ticket: &[u8], image: &[u8]) -> Verdict
-    ensures { λ r. ⌜ (r ≡ verdictOf (now (ticket .entry)) (now (image .entry))) × Promised (now (ticket .entry)) (now (image .entry)) ⌝ }
+// A routine judged: where it is accepted, its ticket's header, which a start goes by, and the certified figures.
+pub enum Admission {
+    Granted(Header, Cycles, StackBytes),
+    Refused(Refusal),
+}
+
+// Reads the ticket and judges the routine. What is admitted comes home from every start by its header, without being judged again.
+pub fn admit(ticket: &[u8], image: &[u8]) -> Admission
+    ensures { λ r. ⌜ (r ≡ admittedOf (now (ticket .entry)) (now (image .entry))) × AdmittedComesHome (now (ticket .entry)) (now (image .entry)) ⌝ }
 {
     let reading = read(ticket);
     let answer = reading.answer;
     match answer {
-        Answer::Refused(x) => Verdict::Refuse(x),
+        Answer::Refused(x) => Admission::Refused(x),
         Answer::Read => {
             let t = reading.ticket;
-            judge(t, image)
+            let h = t.header;
+            match judge(t, image) {
+                Verdict::Refuse(x) => Admission::Refused(x),
+                Verdict::Accept(_, cost, stack) => Admission::Granted(h, cost, stack),
+            }
         }
+    }
+}
+
+// Accepts if and only if every ticket rule holds; else the first cause in document 01's order, with its place. An accepted routine comes home.
+pub fn verdict(ticket: &[u8], image: &[u8]) -> Verdict
+    ensures { λ r. ⌜ (r ≡ verdictOf (now (ticket .entry)) (now (image .entry))) × Promised (now (ticket .entry)) (now (image .entry)) ⌝ }
+{
+    match admit(ticket, image) {
+        Admission::Refused(x) => Verdict::Refuse(x),
+        Admission::Granted(h, cost, stack) => Verdict::Accept(h.entry, cost, stack),
     }
 }
 
@@ -66,17 +89,8 @@ pub fn start_routine(ticket: &[u8], image: &[u8], d: Data, memory: &mut [u8]) ->
     if memory.len() != 65536 {
         return Started::Refused(refuse(21, 0));
     }
-    let reading = read(ticket);
-    let answer = reading.answer;
-    match answer {
-        Answer::Refused(x) => Started::Refused(x),
-        Answer::Read => {
-            let t = reading.ticket;
-            let h = t.header;
-            match judge(t, image) {
-                Verdict::Refuse(x) => Started::Refused(x),
-                Verdict::Accept(_, _, _) => start(h, image, d, memory),
-            }
-        }
+    match admit(ticket, image) {
+        Admission::Refused(x) => Started::Refused(x),
+        Admission::Granted(h, _, _) => start(h, image, d, memory),
     }
 }

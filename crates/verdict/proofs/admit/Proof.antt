@@ -1,0 +1,61 @@
+-- `admit` meets its contract.
+-- Assumes nothing.
+use borrow.Author.Needs.{needs}
+use mathlib.Core.Path.{_≡_, sym}
+use Rattle.commands.proofs.Digits.{all-bytes}
+use Rattle.ticket.specs.Fields.{fieldsOf}
+use Rattle.verdict.specs.Admission.{admittedIf, admittedOf}
+use Rattle.verdict.specs.Routine.{AdmittedComesHome}
+use Rattle.verdict.proofs.Home.{admitted-comes-home}
+use Rattle.verdict.proofs.Reading.{admitted-refused, admitted-read, readable}
+use Rattle.verdict.proofs.admit.Statement.{statement}
+use Rattle.verdict.proofs.admit.Tie as tie
+
+-- the ticket is a list of bytes
+home : (c : tie.After-read) → let s = c .before .before .before .args in AdmittedComesHome (s .ticket .now) (s .image .now)
+home c = admitted-comes-home _ _ (all-bytes _ (λ i. c .before .before .shared-slice-known .given i .fits))
+
+judge-requires : tie.Need-judge-requires
+judge-requires c κs =
+    let r = c .before .before .before .before .read in
+    readable _ _ (r .ensures .0) (c .before .before .enum-told .given .1) (r .ensures .1)
+
+returns : tie.Need-returns
+returns c =
+    let r = c .before .before .before in
+    (sym (admitted-refused _ _ (r .read .ensures .0) _ _ (c .before .answer .given .1)), home r)
+
+-- where the checks have answered
+judged : (c : tie.After-judge)
+    → let r = c .before .before .before .before .before in
+    let s = r .before .before .before .args in
+    admittedIf (c .judge .result) (r .read .result .ticket .header) ≡ admittedOf (s .ticket .now) (s .image .now)
+unfolding fieldsOf
+judged c =
+    let t = c .before .before .before in
+    let r = t .before .before in
+    rw (c .judge .ensures, admitted-read _ _ (r .read .ensures .0) (t .enum-told .given .1) _)
+
+returns-2 : tie.Need-returns-2
+returns-2 c =
+    let j = c .before .before .before in
+    (rw (c .before .x .given .1) at (judged j), home (j .before .before .before .before .before))
+
+returns-3 : tie.Need-returns-3
+returns-3 c =
+    let j = c .before .before .before in
+    (rw (c .before .cost .given .1) at (judged j), home (j .before .before .before .before .before))
+
+pub admit-spec : {M : Type 1} → statement M
+admit-spec =
+    tie.close
+    (tie.spec
+    (search needs)
+    (search needs)
+    (search needs)
+    judge-requires
+    (search needs)
+    (search needs)
+    returns
+    returns-2
+    returns-3)
