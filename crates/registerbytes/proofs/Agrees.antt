@@ -10,25 +10,35 @@ use borrow.Author.Tests.{eq-eqb}
 use Rattle.stepper.specs.Step.{didOf, stepOf}
 use Rattle.stepper.specs.Run.{runOf}
 use Rattle.registerbytes.specs.Bytes.{unpacked}
-use Rattle.registerbytes.specs.Calls.{ofStep, ofRun, stepBytesOf, runBytesOf}
+use Rattle.registerbytes.specs.Calls.{Called, called, ofStep, ofRun, stepBytesOf, runBytesOf}
 use Rattle.registerbytes.proofs.RoundTrip.{packed-unpacked}
 
-module _ (rs m : List ℕ) (h : length rs ≡ 11) where
+module _ (c p : ℕ) (rs m : List ℕ) (h : length rs ≡ 11) where
   step-by : (b : Bool) → eqb (length m) 65536 ≡ b
-      → stepBytesOf rs m ≡ ofStep (stepOf (unpacked rs) m .answer) rs (stepOf (unpacked rs) m .memory)
+      → stepBytesOf c p rs m ≡ ofStep (stepOf (unpacked rs) m .answer) c p rs (stepOf (unpacked rs) m .memory)
   unfolding stepBytesOf stepOf didOf
   step-by true e = simp (eq-eqb _ _ h, e)
   step-by false e = simp (eq-eqb _ _ h, e)
 
-  pub step-agrees : stepBytesOf rs m ≡ ofStep (stepOf (unpacked rs) m .answer) rs (stepOf (unpacked rs) m .memory)
+  pub step-agrees : stepBytesOf c p rs m ≡ ofStep (stepOf (unpacked rs) m .answer) c p rs (stepOf (unpacked rs) m .memory)
   step-agrees = step-by (eqb (length m) 65536) refl
 
-module _ (rs m : List ℕ) (budget : ℕ) (h : length rs ≡ 11) (bytes : (i : ℕ) → getD rs i 0 < 256) where
+-- but for the cycles: of a memory of another length the stepper's run answers 0, and the call leaves them as they were lent
+abbrev pub uncounted : Called → Called
+uncounted a = called (a .outcome) 0 (a .place) (a .registers) (a .memory)
+
+module _ (c p : ℕ) (rs m : List ℕ) (budget : ℕ) (h : length rs ≡ 11) (bytes : (i : ℕ) → getD rs i 0 < 256) where
+  pub run-agrees : length m ≡ 65536
+      → runBytesOf c p rs m budget ≡ ofRun (runOf (unpacked rs) m budget .answer) p (runOf (unpacked rs) m budget .memory)
+  unfolding runBytesOf
+  run-agrees g = simp (eq-eqb _ _ h, eq-eqb _ _ g)
+
   run-by : (b : Bool) → eqb (length m) 65536 ≡ b
-      → runBytesOf rs m budget ≡ ofRun (runOf (unpacked rs) m budget .answer) (runOf (unpacked rs) m budget .memory)
+      → uncounted (runBytesOf c p rs m budget) ≡ uncounted (ofRun (runOf (unpacked rs) m budget .answer) p (runOf (unpacked rs) m budget .memory))
   unfolding runBytesOf runOf
   run-by true e = simp (eq-eqb _ _ h, e)
   run-by false e = simp (eq-eqb _ _ h, e, packed-unpacked rs bytes h)
 
-  pub run-agrees : runBytesOf rs m budget ≡ ofRun (runOf (unpacked rs) m budget .answer) (runOf (unpacked rs) m budget .memory)
-  run-agrees = run-by (eqb (length m) 65536) refl
+  pub run-agrees-uncounted : uncounted (runBytesOf c p rs m budget)
+      ≡ uncounted (ofRun (runOf (unpacked rs) m budget .answer) p (runOf (unpacked rs) m budget .memory))
+  run-agrees-uncounted = run-by (eqb (length m) 65536) refl

@@ -1,13 +1,11 @@
 // A step and a run on register bytes, and the numbers that a call answers.
 ghost use mathlib.Core.Path.{_≡_};
-ghost use lib.ListN.{length};
+ghost use mathlib.Core.List.{List};
+ghost use Prim.Native.Nat.{ℕ};
 ghost use Rattle.stepper.specs.Answer.{numberOf, placeOf};
-ghost use Rattle.registerbytes.specs.Bytes.{packed};
-ghost use Rattle.registerbytes.specs.Calls.{called, stepBytesOf, runBytesOf};
+ghost use Rattle.registerbytes.specs.Calls.{called, replied, stepBytesOf, runBytesOf};
 use crate::bytes::pack;
 use crate::bytes::unpack;
-use registers::Cycles;
-use registers::Registers;
 use stepper::answer::Ran;
 use stepper::answer::Refusal;
 use stepper::answer::Stepped;
@@ -24,18 +22,12 @@ const WAITS: u32 = 23;
 // Past the numbers of document 01's refusals, which go to 24.
 const SPENT: u32 = 100;
 
-// What a call answers beside the lent bytes.
-pub struct Reply {
-    pub outcome: u32,
-    pub cycles: u32,
-    pub place: u16,
+// What a call answers beside the lent bytes; what it does not answer is left as it was lent.
+pub enum Reply {
+    Done(u32, u32), // an outcome that is no refusal, and the cycles
+    Stopped(u32, u32, u16), // a run refused on its way: number, the cycles before it, place
+    Refused(u32, u16), // nothing was done: number and place
 }
-
-const UNFIT: Reply = Reply {
-    outcome: BAD_LENGTH,
-    cycles: 0,
-    place: 0,
-};
 
 fn number_of(x: Refusal) -> u32
     ensures { λ n. ⌜ n ≡ numberOf x ⌝ }
@@ -57,56 +49,70 @@ fn place_of(x: Refusal) -> u16
     }
 }
 
-// The registers reached are stored; the rest is the reply.
-fn reached(q: Registers, regs: &mut [u8], outcome: u32, k: Cycles, place: u16) -> Reply
-    requires { ⌜ length (now regs) ≡ 11 ⌝ }
-    ensures { λ a. ⌜ (now (regs .exit) ≡ packed q) × (a ≡ record { outcome = outcome; cycles = k .0; place = place }) ⌝ }
-{
-    pack(q, regs);
-    Reply {
-        outcome: outcome,
-        cycles: k.0,
-        place: place,
-    }
-}
-
 // A refused step stores nothing.
 pub fn step_on(regs: &mut [u8], mem: &mut [u8]) -> Reply
-    ensures { λ a. ⌜ called (a .outcome) (a .cycles) (a .place) (now (regs .exit)) (now (mem .exit))
-        ≡ stepBytesOf (now (regs .entry)) (now (mem .entry)) ⌝ }
+    ensures { λ a. ⌜ ((c p : ℕ) → replied a c p (now (regs .exit)) (now (mem .exit)) ≡ stepBytesOf c p (now (regs .entry)) (now (mem .entry))) ⌝ }
 {
     if regs.len() != 11 {
-        return UNFIT;
+        return Reply::Refused(BAD_LENGTH, 0);
     }
     if mem.len() != 65536 {
-        return UNFIT;
+        return Reply::Refused(BAD_LENGTH, 0);
     }
     let r = unpack(regs);
     match stepper::step(r, mem) {
-        Stepped::Done(q, k) => reached(q, regs, DONE, k, 0),
-        Stepped::Refused(x) => Reply {
-            outcome: number_of(x),
-            cycles: 0,
-            place: place_of(x),
-        },
+        Stepped::Done(q, k) => {
+            pack(q, regs);
+            Reply::Done(DONE, k.0)
+        }
+        Stepped::Refused(x) => Reply::Refused(number_of(x), place_of(x)),
     }
 }
 
 // Every answer of a run holds the registers reached, a refusal on the way too.
 pub fn run_on(regs: &mut [u8], mem: &mut [u8], budget: u32) -> Reply
-    ensures { λ a. ⌜ called (a .outcome) (a .cycles) (a .place) (now (regs .exit)) (now (mem .exit))
-        ≡ runBytesOf (now (regs .entry)) (now (mem .entry)) budget ⌝ }
+    ensures { λ a. ⌜ ((c p : ℕ) → replied a c p (now (regs .exit)) (now (mem .exit)) ≡ runBytesOf c p (now (regs .entry)) (now (mem .entry)) budget) ⌝ }
 {
     if regs.len() != 11 {
-        return UNFIT;
+        return Reply::Refused(BAD_LENGTH, 0);
     }
     if mem.len() != 65536 {
-        return UNFIT; // before home is looked at
+        return Reply::Refused(BAD_LENGTH, 0); // before home is looked at
     }
     let r = unpack(regs);
     match stepper::run(r, mem, budget) {
-        Ran::Home(q, k) => reached(q, regs, DONE, k, 0),
-        Ran::Spent(q, k) => reached(q, regs, SPENT, k, 0),
-        Ran::Refused(q, k, x) => reached(q, regs, number_of(x), k, place_of(x)),
+        Ran::Home(q, k) => {
+            pack(q, regs);
+            Reply::Done(DONE, k.0)
+        }
+        Ran::Spent(q, k) => {
+            pack(q, regs);
+            Reply::Done(SPENT, k.0)
+        }
+        Ran::Refused(q, k, x) => {
+            pack(q, regs);
+            Reply::Stopped(number_of(x), k.0, place_of(x))
+        }
+    }
+}
+
+// Only the numbers that are answered are written.
+pub fn answer(a: Reply, cycles: &mut u32, place: &mut u16) -> u32
+    ensures { λ n. ⌜ ((rs m : List ℕ) → called n (now (cycles .exit)) (now (place .exit)) rs m ≡ replied a (now (cycles .entry)) (now (place .entry)) rs m) ⌝ }
+{
+    match a {
+        Reply::Done(n, k) => {
+            *cycles = k;
+            n
+        }
+        Reply::Stopped(n, k, p) => {
+            *cycles = k;
+            *place = p;
+            n
+        }
+        Reply::Refused(n, p) => {
+            *place = p;
+            n
+        }
     }
 }

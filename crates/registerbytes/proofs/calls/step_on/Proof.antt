@@ -1,6 +1,7 @@
--- `monitor::calls::step_on` meets its contract: by the lengths, and then by what the stepper answers.
+-- `registerbytes::calls::step_on` meets its contract: by the lengths, and then by what the stepper answers.
 -- Assumes nothing.
 use borrow.Author.Needs.{needs}
+use Prim.Native.Nat.{ℕ}
 use mathlib.Core.Path.{_≡_, sym, ap, _∙_}
 use Rattle.stepper.specs.Answer.{Answer, answerOf}
 use Rattle.registerbytes.specs.Calls.{ofStep, stepBytesOf}
@@ -10,33 +11,33 @@ use Rattle.registerbytes.proofs.calls.step_on.Tie as tie
 
 returns : tie.Need-returns
 unfolding stepBytesOf
-returns c = bad-registers _ _ _ (c .if1 .taken)
+returns c k p = bad-registers _ _ _ _ (c .if1 .taken)
 
 returns-2 : tie.Need-returns-2
 unfolding stepBytesOf
-returns-2 c = bad-memory _ _ _ (search needs) (search needs)
+returns-2 c k p = bad-memory _ _ _ _ (search needs) (search needs)
 
 -- where the stepper has answered
-answered : (w : tie.After-step) {a : Answer} → a ≡ answerOf (w .step .result)
+answered : (w : tie.After-step) (k p : ℕ) {a : Answer} → a ≡ answerOf (w .step .result)
     → let z = w .before .before .before .before .before .before .before .before .args in
-    ofStep a (z .regs .now) (w .step .last .1 .0) ≡ stepBytesOf (z .regs .now) (z .mem .now)
-answered w e =
+    ofStep a k p (z .regs .now) (w .step .last .1 .0) ≡ stepBytesOf k p (z .regs .now) (z .mem .now)
+answered w k p e =
     let unpacks = w .before .before in
     let sized = unpacks .before .before in
     let z = sized .before .before .before .before .args in
-    steps (z .regs .now) (z .mem .now) (sized .before .if1 .left) (sized .if2 .left) (unpacks .unpack .ensures)
+    steps (z .regs .now) (z .mem .now) (sized .before .if1 .left) (sized .if2 .left) (unpacks .unpack .ensures) k p
     (e ∙ w .step .ensures .0) (w .step .ensures .1)
 
 returns-3 : tie.Need-returns-3
-returns-3 c =
-    let d = c .before .before .reached .ensures in
-    let p = c .before .before .before .before .before in
-    simp (d .0, d .1) (answered (p .before .before .before .before) (ap answerOf (sym (p .q .given .1))))
+returns-3 c k p =
+    let d = c .before .before in
+    let q = d .before .before .before in
+    simp (d .pack .ensures) (answered (q .before .before .before .before) k p (ap answerOf (sym (q .q .given .1))))
 
 returns-4 : tie.Need-returns-4
-returns-4 c =
-    let p = c .before .before .before in
-    simp (c .before .number-of .ensures, c .place-of .ensures) (answered (p .before .before .before .before) (ap answerOf (sym (p .x .given .1))))
+returns-4 c k p =
+    let x = c .before .before .before in
+    simp (c .before .number-of .ensures, c .place-of .ensures) (answered (x .before .before .before .before) k p (ap answerOf (sym (x .x .given .1))))
 
 pub step-on-spec : {M : Type 1} → statement M
 step-on-spec =
