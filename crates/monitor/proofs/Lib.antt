@@ -1,1 +1,3 @@
-pub mod StartedHome
+pub mod SlotBytes
+pub mod BytesHome
+pub mod SlotHome

@@ -1,1 +1,4 @@
+pub mod Slot
 pub mod Routine
+pub mod Home
+pub mod Outcome

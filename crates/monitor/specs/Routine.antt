@@ -1,19 +1,25 @@
--- What the C calls of the verdict and of the start come to, by the verdict's own definitions; and what they promise besides (document 01, "The machine": the press monitor is written in C).
+-- What the C calls of the verdict and of the start come to, by the verdict's own definitions (document 01, "The machine": the press monitor is written in C). What a call does not answer
+-- stays as it was lent (demand 1: a refusal alters no lent byte).
 -- Assumes nothing.
 use Prim.Native.Nat.{ℕ}
-use mathlib.Core.Bool.{cond}
-use mathlib.Core.Path.{_≡_}
+use mathlib.Core.Bool.{cond, _&&_}
 use mathlib.Core.List.{List}
 use lib.Dec.{eqb}
 use lib.ListN.{length}
 use Rattle.registers.specs.Registers.{dataOf}
 use Rattle.rules.specs.declared.Verdict.{Verdict}
 use Rattle.rules.specs.declared.Verdict.the-variants.{Accept, Refuse}
+use Rattle.verdict.specs.declared.Admission.{Admission}
+use Rattle.verdict.specs.declared.Admission.the-variants as Admission
 use Rattle.verdict.specs.declared.Started.{Started}
 use Rattle.verdict.specs.declared.Started.the-variants.{At, Refused}
-use Rattle.verdict.specs.Routine.{begunOf, Certain}
+use Rattle.verdict.specs.Admission.{admittedOf}
+use Rattle.verdict.specs.Start.{startedOf, loadedOf}
+use Rattle.verdict.specs.Routine.{begunOf}
 use Rattle.registerbytes.specs.Bytes.{packed, unpacked}
+use Rattle.monitor.specs.Slot.{slotOf, headerIn}
 
+-- the verdict's call: its outcome, and the numbers that it was lent, afterwards
 pub record Judged : Type 0 where
   pub outcome : ℕ
   pub entry : ℕ
@@ -24,11 +30,12 @@ pub record Judged : Type 0 where
 abbrev pub judged : (outcome entry cost stack place : ℕ) → Judged
 judged n e c s p = record { outcome = n; entry = e; cost = c; stack = s; place = p }
 
--- 0 for acceptance, or the refusal's number, which is never 0
-abbrev pub ofVerdict : Verdict → Judged
-ofVerdict (Accept entry cost stack) = judged 0 entry (cost .0) (stack .0) 0
-ofVerdict (Refuse r) = judged (r .number) 0 0 0 (r .place)
+-- 0 for acceptance, or the refusal's number, which is never 0; e, c, s and p are the numbers as they were lent
+abbrev pub ofVerdict : Verdict → (e c s p : ℕ) → Judged
+ofVerdict (Accept entry cost stack) e c s p = judged 0 entry (cost .0) (stack .0) p
+ofVerdict (Refuse r) e c s p = judged (r .number) e c s (r .place)
 
+-- a start's call: its outcome, and the number and the bytes that it was lent, afterwards
 pub record Beginning : Type 0 where
   pub outcome : ℕ
   pub place : ℕ
@@ -38,18 +45,39 @@ pub record Beginning : Type 0 where
 abbrev pub beginning : (outcome place : ℕ) (registers memory : List ℕ) → Beginning
 beginning n p rs m = record { outcome = n; place = p; registers = rs; memory = m }
 
-abbrev pub ofStarted : Started → List ℕ → List ℕ → Beginning
-ofStarted (At q) rs m = beginning 0 0 (packed q) m
-ofStarted (Refused r) rs m = beginning (r .number) (r .place) rs m
+-- p and rs are the place and the register bytes before it, m the memory after it
+abbrev pub ofStarted : Started → (p : ℕ) (rs m : List ℕ) → Beginning
+ofStarted (At q) p rs m = beginning 0 p (packed q) m
+ofStarted (Refused r) p rs m = beginning (r .number) (r .place) rs m
 
 -- 21 at 0 is checked first, of the registers and of the memory; then what the verdict refuses is refused
-unfoldable pub startBytesOf : List ℕ → List ℕ → List ℕ → List ℕ → Beginning
-startBytesOf ticket image rs m =
+unfoldable pub startBytesOf : (place : ℕ) (ticket image registers memory : List ℕ) → Beginning
+startBytesOf p ticket image rs m =
     let b = begunOf ticket image (dataOf (unpacked rs)) m in
-    cond (eqb (length rs) 11) (ofStarted (b .answer) rs (b .memory)) (beginning 21 0 rs m)
+    cond (eqb (length rs) 11) (ofStarted (b .answer) p rs (b .memory)) (beginning 21 0 rs m)
 
--- demand 3 of the bytes: what is started comes home. A run and a step read the register bytes by the same `unpacked`
-abbrev pub StartedBytesComeHome : List ℕ → List ℕ → List ℕ → List ℕ → Type 0
-StartedBytesComeHome ticket image rs m =
-    startBytesOf ticket image rs m .outcome ≡ 0
-    → Certain ticket image (unpacked (startBytesOf ticket image rs m .registers)) (startBytesOf ticket image rs m .memory)
+-- the call that fills a slot: its outcome, and the number and the bytes that it was lent, afterwards
+pub record Filling : Type 0 where
+  pub outcome : ℕ
+  pub place : ℕ
+  pub slot : List ℕ
+
+abbrev pub filling : (outcome place : ℕ) (slot : List ℕ) → Filling
+filling n p bs = record { outcome = n; place = p; slot = bs }
+
+abbrev pub ofAdmission : Admission → (p : ℕ) (slot : List ℕ) → Filling
+ofAdmission (Admission.Granted h cost stack) p bs = filling 0 p (slotOf h cost stack)
+ofAdmission (Admission.Refused r) p bs = filling (r .number) (r .place) bs
+
+-- 21 at 0 is checked first, of the slot; then what the verdict refuses is refused
+unfoldable pub certifyBytesOf : (place : ℕ) (ticket image slot : List ℕ) → Filling
+certifyBytesOf p ticket image bs = cond (eqb (length bs) 24) (ofAdmission (admittedOf ticket image) p bs) (filling 21 0 bs)
+
+-- the start from a slot of any bytes. 21 at 0 is checked first, of the slot, the registers and the memory; then 9, of the image
+unfoldable pub startSlotOf : (place : ℕ) (slot image registers memory : List ℕ) → Beginning
+startSlotOf p bs image rs m =
+    let h = headerIn bs in
+    cond
+    (eqb (length bs) 24 && eqb (length rs) 11)
+    (ofStarted (startedOf h (dataOf (unpacked rs)) image m) p rs (loadedOf h image m))
+    (beginning 21 0 rs m)

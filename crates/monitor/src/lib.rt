@@ -1,16 +1,19 @@
-// The press monitor's C calls: thin entries over the stepper and the verdict, on numbers and byte slices. Each takes any input. Their header is
-// include/jugrond.h.
+// The press monitor's C calls: thin entries over the stepper and the verdict, on numbers and byte slices. Each takes any input. What a call does not answer it leaves as it was lent.
+// Their header is include/jugrond.h.
 ghost use mathlib.Core.Path.{_≡_};
 ghost use Rattle.rules.specs.Checks.{verdictOf};
 ghost use Rattle.verdict.specs.Promise.{Promised};
 ghost use Rattle.registerbytes.specs.Calls.{called, resetBytesOf, stepBytesOf, runBytesOf};
-ghost use Rattle.monitor.specs.Routine.{judged, ofVerdict, beginning, startBytesOf, StartedBytesComeHome};
+ghost use Rattle.monitor.specs.Routine.{judged, ofVerdict, beginning, startBytesOf, filling, certifyBytesOf, startSlotOf};
+ghost use Rattle.monitor.specs.Home.{StartedBytesComeHome, FilledSlotComesHome, StartsFromFilledSlot};
 use registerbytes::bytes::pack;
 use registerbytes::calls;
 use registers::Registers;
+use rules::Verdict;
 use verdict::verdict;
 
-mod routine; // the verdict and the start as numbers
+mod routine; // a routine judged and started, and the number that a call answers
+mod slot; // a routine judged into a slot, and started from it
 
 #[no_mangle]
 pub extern "C" fn jugrond_reset(regs: &mut [u8]) -> u32
@@ -23,7 +26,7 @@ pub extern "C" fn jugrond_reset(regs: &mut [u8]) -> u32
     calls::DONE
 }
 
-// One instruction. `cycles` and `place` are written in every case.
+// One instruction.
 #[no_mangle]
 pub extern "C" fn jugrond_step(
     regs: &mut [u8],
@@ -32,12 +35,9 @@ pub extern "C" fn jugrond_step(
     place: &mut u16,
 ) -> u32
     ensures { λ q. ⌜ called q (now (cycles .exit)) (now (place .exit)) (now (regs .exit)) (now (mem .exit))
-        ≡ stepBytesOf (now (regs .entry)) (now (mem .entry)) ⌝ }
+        ≡ stepBytesOf (now (cycles .entry)) (now (place .entry)) (now (regs .entry)) (now (mem .entry)) ⌝ }
 {
-    let a = calls::step_on(regs, mem);
-    *cycles = a.cycles;
-    *place = a.place;
-    a.outcome
+    calls::answer(calls::step_on(regs, mem), cycles, place)
 }
 
 // Instructions until home, a refusal, or one that would pass the budget; what was done before a refusal stays done.
@@ -50,15 +50,12 @@ pub extern "C" fn jugrond_run(
     place: &mut u16,
 ) -> u32
     ensures { λ q. ⌜ called q (now (cycles .exit)) (now (place .exit)) (now (regs .exit)) (now (mem .exit))
-        ≡ runBytesOf (now (regs .entry)) (now (mem .entry)) budget ⌝ }
+        ≡ runBytesOf (now (cycles .entry)) (now (place .entry)) (now (regs .entry)) (now (mem .entry)) budget ⌝ }
 {
-    let a = calls::run_on(regs, mem, budget);
-    *cycles = a.cycles;
-    *place = a.place;
-    a.outcome
+    calls::answer(calls::run_on(regs, mem, budget), cycles, place)
 }
 
-// The verdict on a routine. `entry`, `cost`, `stack` and `place` are written in every case.
+// The verdict on a routine. An acceptance writes entry, cost and stack, a refusal its place.
 #[no_mangle]
 pub extern "C" fn jugrond_verdict(
     ticket: &[u8],
@@ -68,18 +65,25 @@ pub extern "C" fn jugrond_verdict(
     stack: &mut u16,
     place: &mut u32,
 ) -> u32
-    ensures { λ q. ⌜ (judged q (now (entry .exit)) (now (cost .exit)) (now (stack .exit)) (now (place .exit)) ≡ ofVerdict (verdictOf (now (ticket .entry)) (now (image .entry))))
+    ensures { λ q. ⌜ (judged q (now (entry .exit)) (now (cost .exit)) (now (stack .exit)) (now (place .exit))
+        ≡ ofVerdict (verdictOf (now (ticket .entry)) (now (image .entry))) (now (entry .entry)) (now (cost .entry)) (now (stack .entry)) (now (place .entry)))
         × Promised (now (ticket .entry)) (now (image .entry)) ⌝ }
 {
-    let a = routine::judgement_of(verdict(ticket, image));
-    *entry = a.entry;
-    *cost = a.cost;
-    *stack = a.stack;
-    *place = a.place;
-    a.outcome
+    match verdict(ticket, image) {
+        Verdict::Accept(address, cycles, bytes) => {
+            *entry = address;
+            *cost = cycles.0;
+            *stack = bytes.0;
+            calls::DONE
+        }
+        Verdict::Refuse(x) => {
+            *place = x.place;
+            x.number as u32
+        }
+    }
 }
 
-// Judges a routine and, where it is accepted, starts it with A, B, X, Y and flags as they are lent: what is started comes home. `place` is written in every case.
+// Judges a routine and, where it is accepted, starts it with A, B, X, Y and flags as they are lent: what is started comes home.
 #[no_mangle]
 pub extern "C" fn jugrond_start(
     ticket: &[u8],
@@ -88,10 +92,39 @@ pub extern "C" fn jugrond_start(
     mem: &mut [u8],
     place: &mut u32,
 ) -> u32
-    ensures { λ q. ⌜ (beginning q (now (place .exit)) (now (regs .exit)) (now (mem .exit)) ≡ startBytesOf (now (ticket .entry)) (now (image .entry)) (now (regs .entry)) (now (mem .entry)))
-        × StartedBytesComeHome (now (ticket .entry)) (now (image .entry)) (now (regs .entry)) (now (mem .entry)) ⌝ }
+    ensures { λ q. ⌜ (beginning q (now (place .exit)) (now (regs .exit)) (now (mem .exit))
+        ≡ startBytesOf (now (place .entry)) (now (ticket .entry)) (now (image .entry)) (now (regs .entry)) (now (mem .entry)))
+        × StartedBytesComeHome (now (place .entry)) (now (ticket .entry)) (now (image .entry)) (now (regs .entry)) (now (mem .entry)) ⌝ }
 {
-    let a = routine::start_on(ticket, image, regs, mem);
-    *place = a.place;
-    a.outcome
+    routine::answer(routine::start_on(ticket, image, regs, mem), place)
+}
+
+// Judges a routine and, where it is accepted, fills the slot: every start from it comes home.
+#[no_mangle]
+pub extern "C" fn jugrond_certify(
+    ticket: &[u8],
+    image: &[u8],
+    slot: &mut [u8],
+    place: &mut u32,
+) -> u32
+    ensures { λ q. ⌜ (filling q (now (place .exit)) (now (slot .exit)) ≡ certifyBytesOf (now (place .entry)) (now (ticket .entry)) (now (image .entry)) (now (slot .entry)))
+        × FilledSlotComesHome (now (place .entry)) (now (ticket .entry)) (now (image .entry)) (now (slot .entry)) ⌝ }
+{
+    routine::answer(slot::certify_into(ticket, image, slot), place)
+}
+
+// Starts the routine that a slot was filled for, without judging it: from a slot that was filled for this image it comes home.
+#[no_mangle]
+pub extern "C" fn jugrond_start_certified(
+    slot: &[u8],
+    image: &[u8],
+    regs: &mut [u8],
+    mem: &mut [u8],
+    place: &mut u32,
+) -> u32
+    ensures { λ q. ⌜ (beginning q (now (place .exit)) (now (regs .exit)) (now (mem .exit))
+        ≡ startSlotOf (now (place .entry)) (now (slot .entry)) (now (image .entry)) (now (regs .entry)) (now (mem .entry)))
+        × StartsFromFilledSlot (now (slot .entry)) (now (image .entry)) ⌝ }
+{
+    routine::answer(slot::start_from(slot, image, regs, mem), place)
 }

@@ -1,81 +1,77 @@
-// The verdict on a routine and its start, as the numbers that a call answers.
+// A routine judged and started on the registers' bytes, and the number that a call answers.
+ghost use mathlib.Core.List.{List};
 ghost use mathlib.Core.Path.{_≡_};
-ghost use Rattle.monitor.specs.Routine.{judged, ofVerdict, beginning, startBytesOf};
+ghost use Prim.Native.Nat.{ℕ};
+ghost use lib.ListN.{length};
+ghost use Rattle.registers.specs.Registers.{dataOf};
+ghost use Rattle.registerbytes.specs.Bytes.{unpacked};
+ghost use Rattle.monitor.specs.Outcome.{numberOf, placeAfter};
+ghost use Rattle.monitor.specs.Routine.{beginning, ofStarted, startBytesOf};
+use commands::command::Refusal;
+use commands::command::refuse;
 use registerbytes::bytes::pack;
 use registerbytes::bytes::unpack;
-use registerbytes::calls::BAD_LENGTH;
 use registerbytes::calls::DONE;
 use registers::Data;
-use rules::Verdict;
 use verdict::Started;
 use verdict::start_routine;
 
-// What the verdict's call answers.
-pub struct Judgement {
-    pub outcome: u32,
-    pub cost: u32,
-    pub place: u32,
-    pub entry: u16,
-    pub stack: u16,
+// Of a call that has nothing to answer beside the lent bytes but a refusal's place.
+pub enum Outcome {
+    Done,
+    Refused(Refusal),
 }
 
-pub fn judgement_of(v: Verdict) -> Judgement
-    ensures { λ a. ⌜ judged (a .outcome) (a .entry) (a .cost) (a .stack) (a .place) ≡ ofVerdict v ⌝ }
+// Only a refusal writes the place.
+pub fn answer(a: Outcome, place: &mut u32) -> u32
+    ensures { λ n. ⌜ (n ≡ numberOf a) × (now (place .exit) ≡ placeAfter a (now (place .entry))) ⌝ }
 {
-    match v {
-        Verdict::Accept(entry, cost, stack) => Judgement {
-            outcome: DONE,
-            cost: cost.0,
-            place: 0,
-            entry,
-            stack: stack.0,
-        },
-        Verdict::Refuse(x) => Judgement {
-            outcome: x.number as u32,
-            cost: 0,
-            place: x.place,
-            entry: 0,
-            stack: 0,
-        },
+    match a {
+        Outcome::Done => DONE,
+        Outcome::Refused(x) => {
+            *place = x.place;
+            x.number as u32
+        }
     }
 }
 
-// What the start's call answers beside the lent bytes.
-pub struct Opening {
-    pub outcome: u32,
-    pub place: u32,
-}
-
-// A, B, X, Y and flags are as they were lent. A refusal stores nothing.
-pub fn start_on(ticket: &[u8], image: &[u8], regs: &mut [u8], mem: &mut [u8]) -> Opening
-    ensures { λ a. ⌜ beginning (a .outcome) (a .place) (now (regs .exit)) (now (mem .exit))
-        ≡ startBytesOf (now (ticket .entry)) (now (image .entry)) (now (regs .entry)) (now (mem .entry)) ⌝ }
+// A, B, X, Y and flags, as they are lent.
+pub fn data_in(regs: &[u8]) -> Data
+    requires { ⌜ length (now regs) ≡ 11 ⌝ }
+    ensures { λ d. ⌜ d ≡ dataOf (unpacked (now (regs .entry))) ⌝ }
 {
-    if regs.len() != 11 {
-        return Opening {
-            outcome: BAD_LENGTH,
-            place: 0,
-        };
-    }
     let r = unpack(regs);
-    let d = Data {
+    Data {
         x: r.x,
         y: r.y,
         a: r.a,
         b: r.b,
         flags: r.flags,
-    };
-    match start_routine(ticket, image, d, mem) {
+    }
+}
+
+// The start's registers are stored; a refusal stores nothing.
+pub fn stored(s: Started, regs: &mut [u8]) -> Outcome
+    requires { ⌜ length (now regs) ≡ 11 ⌝ }
+    ensures { λ a. ⌜ ((p : ℕ) (m : List ℕ) → beginning (numberOf a) (placeAfter a p) (now (regs .exit)) m ≡ ofStarted s p (now (regs .entry)) m) ⌝ }
+{
+    match s {
         Started::At(q) => {
             pack(q, regs);
-            Opening {
-                outcome: DONE,
-                place: 0,
-            }
+            Outcome::Done
         }
-        Started::Refused(x) => Opening {
-            outcome: x.number as u32,
-            place: x.place,
-        },
+        Started::Refused(x) => Outcome::Refused(x),
     }
+}
+
+// Judges a routine and, where it is accepted, starts it.
+pub fn start_on(ticket: &[u8], image: &[u8], regs: &mut [u8], mem: &mut [u8]) -> Outcome
+    ensures { λ a. ⌜ ((p : ℕ) → beginning (numberOf a) (placeAfter a p) (now (regs .exit)) (now (mem .exit))
+        ≡ startBytesOf p (now (ticket .entry)) (now (image .entry)) (now (regs .entry)) (now (mem .entry))) ⌝ }
+{
+    if regs.len() != 11 {
+        return Outcome::Refused(refuse(21, 0));
+    }
+    let d = data_in(regs);
+    stored(start_routine(ticket, image, d, mem), regs)
 }

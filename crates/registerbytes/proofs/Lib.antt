@@ -1,4 +1,4 @@
-pub mod Eleven
+pub mod Elements
 pub mod RoundTrip
 pub mod Sized
 pub mod Agrees

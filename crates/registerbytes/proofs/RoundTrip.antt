@@ -7,7 +7,7 @@ use native.Mathlib.Omega.{arith}
 use lib.ListN.{length, getD}
 use Rattle.registers.specs.declared.Registers.{Registers}
 use Rattle.registerbytes.specs.Bytes.{packed, wordIn, unpacked}
-use Rattle.registerbytes.proofs.Eleven.{eleven}
+use Rattle.registerbytes.proofs.Elements.{all-elements}
 
 halves : (w : ℕ) → w / 256 * 256 + w % 256 ≡ w
 halves w = omega arith
@@ -25,4 +25,4 @@ module _ (bs : List ℕ) (bytes : (i : ℕ) → getD bs i 0 < 256) where
 
   pub packed-unpacked : length bs ≡ 11 → packed (unpacked bs) ≡ bs
   unfolding packed unpacked
-  packed-unpacked h = simp (high, low) (sym (eleven bs h))
+  packed-unpacked h = simp (high, low) (sym (all-elements bs 11 h))

@@ -1,24 +1,24 @@
 // The registers as the 11 bytes that the monitor lends: A, B, X, Y, SP, PC, flags, high byte first. An inner module: its functions require
-// that number of bytes.
+// that there are bytes enough.
 ghost use mathlib.Core.Path.{_≡_};
 ghost use Prim.Native.Nat.{_+_, _/_, _%_, _<_};
 ghost use lib.ListN.{length, getD};
 ghost use Rattle.registerbytes.specs.Bytes.{wordIn, withWord, packed, unpacked};
 use registers::Registers;
 
-fn byte_in(regs: &[u8], at: usize) -> u8
-    requires { ⌜ at < length (now regs) ⌝ }
-    ensures { λ v. ⌜ v ≡ getD (now (regs .entry)) at 0 ⌝ }
+fn byte_in(bytes: &[u8], at: usize) -> u8
+    requires { ⌜ at < length (now bytes) ⌝ }
+    ensures { λ v. ⌜ v ≡ getD (now (bytes .entry)) at 0 ⌝ }
 {
-    regs[at]
+    bytes[at]
 }
 
-fn word_in(regs: &[u8], at: usize) -> u16
-    requires { ⌜ at + 1 < length (now regs) ⌝ }
-    ensures { λ v. ⌜ v ≡ wordIn (now (regs .entry)) at ⌝ }
+pub fn word_in(bytes: &[u8], at: usize) -> u16
+    requires { ⌜ at + 1 < length (now bytes) ⌝ }
+    ensures { λ v. ⌜ v ≡ wordIn (now (bytes .entry)) at ⌝ }
 {
-    let h = byte_in(regs, at) as u16;
-    let l = byte_in(regs, at + 1) as u16;
+    let h = byte_in(bytes, at) as u16;
+    let l = byte_in(bytes, at + 1) as u16;
     h * 256 + l
 }
 

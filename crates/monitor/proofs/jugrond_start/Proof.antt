@@ -2,15 +2,17 @@
 -- Assumes nothing.
 use borrow.Author.Needs.{needs}
 use Rattle.commands.proofs.Digits.{all-bytes}
-use Rattle.monitor.proofs.StartedHome.{started-bytes-come-home}
+use Rattle.monitor.proofs.BytesHome.{started-bytes-come-home}
 use Rattle.monitor.proofs.jugrond_start.Statement.{statement}
 use Rattle.monitor.proofs.jugrond_start.Tie as tie
 
 returns : tie.Need-returns
 returns c =
-    let d = c .before .before .before .before in
-    let s = d .before .before .before .before .before .before in
-    (d .start-on .ensures, started-bytes-come-home _ _ _ _ (all-bytes _ (λ i. s .shared-slice-known .given i .fits)))
+    let d = c .before .before .before .before .before .before in
+    let s = d .before .before .before .before .before .before in (
+      rw (c .answer .ensures .0, c .answer .ensures .1) (d .start-on .ensures _),
+      started-bytes-come-home _ _ _ _ _ (all-bytes _ (λ i. s .shared-slice-known .given i .fits)),
+    )
 
 pub jugrond-start-spec : {M : Type 1} → statement M
-jugrond-start-spec = tie.close (tie.spec (search needs) (search needs) (search needs) returns)
+jugrond-start-spec = tie.close (tie.spec (search needs) (search needs) (search needs) (search needs) returns)

@@ -7,14 +7,14 @@ use Prim.Native.Nat.{ℕ}
 use lib.ListN.{length, set, length-set}
 use Rattle.registers.specs.declared.Registers.{Registers}
 use Rattle.registerbytes.specs.Bytes.{packed, withWord}
-use Rattle.registerbytes.proofs.Eleven.{eleven}
+use Rattle.registerbytes.proofs.Elements.{all-elements}
 use Rattle.registerbytes.proofs.bytes.pack.Statement.{statement}
 use Rattle.registerbytes.proofs.bytes.pack.Tie as tie
 
 stored : (bs : List ℕ) → length bs ≡ 11 → (r : Registers)
     → set (withWord (withWord (withWord (withWord (set (set bs 0 (r .a)) 1 (r .b)) 2 (r .x)) 4 (r .y)) 6 (r .sp)) 8 (r .pc)) 10 (r .flags) ≡ packed r
 unfolding packed
-stored bs h r = rw (eleven bs h)
+stored bs h r = rw (all-elements bs 11 h)
 
 same-length : tie.Need-same-length
 same-length c =

@@ -1,0 +1,97 @@
+-- What comes home from registers and a memory comes home from the registers' bytes by C's run; so what the start call answers with 0 comes home.
+-- Assumes nothing.
+use Prim.Native.Nat.{ℕ, _≤_}
+use mathlib.Core.Path.{_≡_, refl, sym, ap}
+use mathlib.Core.Bool.{Bool, true, false, cond}
+use mathlib.Core.List.{List}
+use native.Mathlib.Omega.{arith}
+use borrow.Author.Tests.{eq-eqb}
+use lib.Dec.{eqb}
+use lib.ListN.{length}
+use Rattle.registers.specs.declared.Cycles.{Cycles}
+use Rattle.registers.specs.declared.Registers.{Registers}
+use Rattle.registers.specs.Registers.{dataOf}
+use Rattle.commands.specs.Number.{AllBytes}
+use Rattle.stepper.specs.Answer.{home, refused}
+use Rattle.stepper.specs.Run.{AfterRun, runOf}
+use Rattle.rules.specs.Trace.{total}
+use Rattle.rules.specs.Claim.{Stops, ranHome}
+use Rattle.verdict.specs.declared.Started.{Started}
+use Rattle.verdict.specs.declared.Started.the-variants.{At, Refused}
+use Rattle.verdict.specs.Routine.{Begun, begunOf, Certain}
+use Rattle.verdict.proofs.Home.{started-comes-home}
+use Rattle.verdict.proofs.BegunNumbered.{begun-numbered}
+use Rattle.registerbytes.specs.Bytes.{packed, unpacked}
+use Rattle.registerbytes.specs.Calls.{called, runBytesOf}
+use Rattle.registerbytes.proofs.RoundTrip.{unpacked-packed}
+use Rattle.monitor.specs.Home.{BytesComeHome, StartedBytesComeHome}
+use Rattle.monitor.specs.Routine.{Beginning, beginning, ofStarted, startBytesOf}
+
+refused-not-home : (n p : ℕ) (r q : Registers) (j k : Cycles) → refused n p r j ≡ home q k → ⊥
+refused-not-home n p r q j k h = let z : _≡_ {A = ℕ} 0 1 = cc in omega arith
+
+-- a run that comes home has a whole memory
+whole-by : (r : Registers) (m : List ℕ) (b : ℕ) (q : Registers) (n : List ℕ) (k : ℕ) → runOf r m b ≡ ranHome q n k
+    → (w : Bool) → eqb (length m) 65536 ≡ w → w ≡ true
+unfolding runOf
+whole-by r m b q n k h true e = refl
+whole-by r m b q n k h false e = absurd (refused-not-home _ _ _ _ _ _ (ap (λ (a : AfterRun). a .answer) (rw e at h)))
+
+module _ (ticket image rs m : List ℕ) (eleven : length rs ≡ 11) (C : Certain ticket image (unpacked rs) m) where
+  whole : eqb (length m) 65536 ≡ true
+  whole =
+      let H = C .comes-home in
+      whole-by _ m _ _ _ _ (H .covered (total (H .deeds)) (omega arith)) (eqb (length m) 65536) refl
+
+  covered : (b c p : ℕ) → let H = C .comes-home in
+      total (H .deeds) ≤ b → runBytesOf c p rs m b ≡ called 0 (total (H .deeds)) p (packed (H .last)) (H .memory)
+  unfolding runBytesOf
+  covered b c p l = rw (eq-eqb _ _ eleven, whole, C .comes-home .covered b l)
+
+  stopped : (b c p : ℕ) (S : Stops (unpacked rs) m (C .comes-home .deeds) b)
+      → runBytesOf c p rs m b ≡ called 100 (total (S .before)) p (packed (S .registers)) (S .memory)
+  unfolding runBytesOf
+  stopped b c p S = rw (eq-eqb _ _ eleven, whole, S .answer)
+
+  abbrev bytes-come-home : BytesComeHome ticket image rs m
+  bytes-come-home =
+      record {
+        certain = C;
+        covered = covered;
+        uncovered = λ b c p l. let S = C .comes-home .uncovered b l in (S, stopped b c p S);
+      }
+
+-- of the registers that the bytes hold, within the same figures
+from-unpacked : (ticket image rs m : List ℕ) → length rs ≡ 11 → (r : Registers) → r ≡ unpacked rs → (C : Certain ticket image r m)
+    → (H : BytesComeHome ticket image rs m) × (H .certain .cost ≡ C .cost) × (H .certain .stack ≡ C .stack)
+from-unpacked ticket image rs m eleven r e = rw e (λ C. (bytes-come-home ticket image rs m eleven C, refl, refl))
+
+packed-length : (r : Registers) → length (packed r) ≡ 11
+unfolding packed
+packed-length r = refl
+
+pub packed-come-home : (ticket image : List ℕ) (r : Registers) (m : List ℕ) (C : Certain ticket image r m)
+    → (H : BytesComeHome ticket image (packed r) m) × (H .certain .cost ≡ C .cost) × (H .certain .stack ≡ C .stack)
+packed-come-home ticket image r m =
+    from-unpacked ticket image (packed r) m (packed-length r) r (sym (unpacked-packed r))
+
+module _ (p : ℕ) (ticket image rs m : List ℕ) (bytes : AllBytes ticket) where
+  abbrev b : Begun
+  b = begunOf ticket image (dataOf (unpacked rs)) m
+
+  abbrev Home : Beginning → Type 0
+  Home g = g .outcome ≡ 0 → BytesComeHome ticket image (g .registers) (g .memory)
+
+  -- by the answer: 0 is no refusal's number
+  home-of : (s : Started) → b .answer ≡ s → Home (ofStarted s p rs (b .memory))
+  home-of (At q) h z = packed-come-home ticket image q _ (started-comes-home ticket image bytes _ m q h) .0
+  home-of (Refused r) h z = absurd (omega (arith, z, begun-numbered ticket image _ m r h))
+
+  -- by whether there are 11 register bytes
+  home-sized : (eleven : Bool) → Home (cond eleven (ofStarted (b .answer) p rs (b .memory)) (beginning 21 0 rs m))
+  home-sized true z = home-of (b .answer) refl z
+  home-sized false z = absurd (omega (arith, z))
+
+pub started-bytes-come-home : (p : ℕ) (ticket image rs m : List ℕ) → AllBytes ticket → StartedBytesComeHome p ticket image rs m
+unfolding startBytesOf
+started-bytes-come-home p ticket image rs m bytes = home-sized p ticket image rs m bytes (eqb (length rs) 11)

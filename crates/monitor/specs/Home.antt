@@ -1,0 +1,50 @@
+-- Demand 3 of C's bytes: what the C calls start, C's run brings home.
+-- Assumes nothing.
+use Prim.Native.Nat.{ℕ, _≤_, _<_}
+use mathlib.Core.Path.{_≡_}
+use mathlib.Core.List.{List}
+use lib.ListN.{length}
+use Rattle.commands.specs.Number.{AllBytes}
+use Rattle.rules.specs.Trace.{total}
+use Rattle.rules.specs.Claim.{Stops}
+use Rattle.verdict.specs.Routine.{Certain}
+use Rattle.registerbytes.specs.Bytes.{packed, unpacked}
+use Rattle.registerbytes.specs.Calls.{called, runBytesOf}
+use Rattle.monitor.specs.Slot.{costIn, stackIn}
+use Rattle.monitor.specs.Routine.{Beginning, startBytesOf, filling, certifyBytesOf, startSlotOf}
+
+-- from the register bytes rs and the memory m the routine comes home; and so does C's run on them, whatever is lent as cycles c and place p: for every budget b that covers the way home it answers home,
+-- with the way's cycles, and the registers and the memory at its end; for every other budget spent, as far along the way as the budget goes
+pub record BytesComeHome (ticket image rs m : List ℕ) : Type 0 where
+  pub certain : Certain ticket image (unpacked rs) m
+  pub covered : (b c p : ℕ) → let H = certain .comes-home in
+      total (H .deeds) ≤ b → runBytesOf c p rs m b ≡ called 0 (total (H .deeds)) p (packed (H .last)) (H .memory)
+  pub uncovered : (b c p : ℕ) → b < total (certain .comes-home .deeds)
+      → (S : Stops (unpacked rs) m (certain .comes-home .deeds) b)
+      × (runBytesOf c p rs m b ≡ called 100 (total (S .before)) p (packed (S .registers)) (S .memory))
+
+-- what is judged and started comes home
+abbrev pub StartedBytesComeHome : (place : ℕ) (ticket image registers memory : List ℕ) → Type 0
+StartedBytesComeHome p ticket image rs m =
+    let b = startBytesOf p ticket image rs m in b .outcome ≡ 0 → BytesComeHome ticket image (b .registers) (b .memory)
+
+-- every start from a slot comes home, whatever the registers, the memory and the place that are lent, within the slot's certified figures
+abbrev pub SlotComesHome : (ticket image slot : List ℕ) → Type 0
+SlotComesHome ticket image slot =
+    (p : ℕ) (rs m : List ℕ) → length rs ≡ 11 → length m ≡ 65536
+    → let b = startSlotOf p slot image rs m in
+    (b .outcome ≡ 0)
+    × (H : BytesComeHome ticket image (b .registers) (b .memory)) × (H .certain .cost ≡ costIn slot) × (H .certain .stack ≡ stackIn slot)
+
+-- a slot that was filled comes home
+abbrev pub FilledSlotComesHome : (place : ℕ) (ticket image slot : List ℕ) → Type 0
+FilledSlotComesHome p ticket image bs =
+    let f = certifyBytesOf p ticket image bs in f .outcome ≡ 0 → SlotComesHome ticket image (f .slot)
+
+-- the slot is what the call that fills one left there for this image, when it accepted some ticket
+abbrev pub FilledFor : (ticket image slot : List ℕ) → Type 0
+FilledFor ticket image slot = (p : ℕ) × (old : List ℕ) × (certifyBytesOf p ticket image old ≡ filling 0 p slot)
+
+-- so every start from such a slot comes home
+abbrev pub StartsFromFilledSlot : (slot image : List ℕ) → Type 0
+StartsFromFilledSlot slot image = (ticket : List ℕ) → AllBytes ticket → FilledFor ticket image slot → SlotComesHome ticket image slot
