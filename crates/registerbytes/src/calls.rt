@@ -2,10 +2,13 @@
 ghost use mathlib.Core.Path.{_≡_};
 ghost use mathlib.Core.List.{List};
 ghost use Prim.Native.Nat.{ℕ};
+ghost use lib.ListN.{length};
 ghost use Rattle.stepper.specs.Answer.{numberOf, placeOf};
+ghost use Rattle.registerbytes.specs.Bytes.{packed};
 ghost use Rattle.registerbytes.specs.Calls.{called, replied, stepBytesOf, runBytesOf};
 use crate::bytes::pack;
 use crate::bytes::unpack;
+use registers::Registers;
 use stepper::answer::Ran;
 use stepper::answer::Refusal;
 use stepper::answer::Stepped;
@@ -49,6 +52,15 @@ fn place_of(x: Refusal) -> u16
     }
 }
 
+// The registers reached are stored.
+fn reached(q: Registers, regs: &mut [u8], a: Reply) -> Reply
+    requires { ⌜ length (now regs) ≡ 11 ⌝ }
+    ensures { λ b. ⌜ (now (regs .exit) ≡ packed q) × (b ≡ a) ⌝ }
+{
+    pack(q, regs);
+    a
+}
+
 // A refused step stores nothing.
 pub fn step_on(regs: &mut [u8], mem: &mut [u8]) -> Reply
     ensures { λ a. ⌜ ((c p : ℕ) → replied a c p (now (regs .exit)) (now (mem .exit)) ≡ stepBytesOf c p (now (regs .entry)) (now (mem .entry))) ⌝ }
@@ -61,10 +73,7 @@ pub fn step_on(regs: &mut [u8], mem: &mut [u8]) -> Reply
     }
     let r = unpack(regs);
     match stepper::step(r, mem) {
-        Stepped::Done(q, k) => {
-            pack(q, regs);
-            Reply::Done(DONE, k.0)
-        }
+        Stepped::Done(q, k) => reached(q, regs, Reply::Done(DONE, k.0)),
         Stepped::Refused(x) => Reply::Refused(number_of(x), place_of(x)),
     }
 }
@@ -81,18 +90,9 @@ pub fn run_on(regs: &mut [u8], mem: &mut [u8], budget: u32) -> Reply
     }
     let r = unpack(regs);
     match stepper::run(r, mem, budget) {
-        Ran::Home(q, k) => {
-            pack(q, regs);
-            Reply::Done(DONE, k.0)
-        }
-        Ran::Spent(q, k) => {
-            pack(q, regs);
-            Reply::Done(SPENT, k.0)
-        }
-        Ran::Refused(q, k, x) => {
-            pack(q, regs);
-            Reply::Stopped(number_of(x), k.0, place_of(x))
-        }
+        Ran::Home(q, k) => reached(q, regs, Reply::Done(DONE, k.0)),
+        Ran::Spent(q, k) => reached(q, regs, Reply::Done(SPENT, k.0)),
+        Ran::Refused(q, k, x) => reached(q, regs, Reply::Stopped(number_of(x), k.0, place_of(x))),
     }
 }
 

@@ -32,19 +32,20 @@ returns-3 : tie.Need-returns-3
 returns-3 c k p =
     let d = c .before .before in
     let q = d .before .before .before in
-    simp (d .pack .ensures) (answered (q .before .before .before .before) k p (ap ranOf (sym (q .q .given .1))))
+    simp (d .reached .ensures .0, d .reached .ensures .1) (answered (q .before .before .before .before) k p (ap ranOf (sym (q .q .given .1))))
 
 returns-4 : tie.Need-returns-4
 returns-4 c k p =
     let d = c .before .before in
     let q = d .before .before .before in
-    simp (d .pack2 .ensures) (answered (q .before .before .before .before) k p (ap ranOf (sym (q .q2 .given .1))))
+    simp (d .reached2 .ensures .0, d .reached2 .ensures .1) (answered (q .before .before .before .before) k p (ap ranOf (sym (q .q2 .given .1))))
 
 returns-5 : tie.Need-returns-5
 returns-5 c k p =
-    let d = c .before .before .before .before in
-    let q = d .before .before .before in
-    simp (d .pack3 .ensures, c .before .number-of .ensures, c .place-of .ensures)
+    let d = c .before .before in
+    let n = d .before .before in
+    let q = n .before .before .before in
+    simp (d .reached3 .ensures .0, d .reached3 .ensures .1, n .number-of .ensures, d .before .place-of .ensures)
     (answered (q .before .before .before .before) k p (ap ranOf (sym (q .q3 .given .1))))
 
 pub run-on-spec : {M : Type 1} → statement M

@@ -32,7 +32,7 @@ returns-3 : tie.Need-returns-3
 returns-3 c k p =
     let d = c .before .before in
     let q = d .before .before .before in
-    simp (d .pack .ensures) (answered (q .before .before .before .before) k p (ap answerOf (sym (q .q .given .1))))
+    simp (d .reached .ensures .0, d .reached .ensures .1) (answered (q .before .before .before .before) k p (ap answerOf (sym (q .q .given .1))))
 
 returns-4 : tie.Need-returns-4
 returns-4 c k p =
