@@ -125,7 +125,7 @@ class Comparison:
         elif reason and reason.differences == diff:
             self.explained.append(f"{head}{shown(diff)}\n    {reason.reason}")
         else:
-            self.unexplained.append(f"{head}{shown(diff)} ({found[0].where})")
+            self.unexplained.append(f"{head}{shown(diff)} ({found[0].where}): no reason is known")
 
     def check_cover(self, cols, entries):
         """Each row has one column under its own name, and one under its second name if it has that."""
@@ -168,9 +168,7 @@ def main():
     c = Comparison(cols, entries)
     for line in (c.agree if verbose else []) + c.explained:
         print(line)
-    for line in c.unexplained:
-        print(f"FAILED: {line}: no reason is known")
-    for line in c.faults:
+    for line in c.unexplained + c.faults:
         print(f"FAILED: {line}")
     second = sum(e.name in ALIASES for e in cols)
     print(f"{len(entries)} rows; {len(cols)} columns, {second} under a second name; {len(c.faults)} other failures")
