@@ -1,4 +1,5 @@
-/* A second verdict: see peer.h. The ticket is read once into a list of marks with an index by code address; then each mark is looked at in turn. */
+/* A second verdict: see peer.h. The ticket is read into a list of marks with an index by code address; then each mark
+   is judged in turn. */
 #include "peer.h"
 #include "peer_instructions.h"
 
@@ -51,7 +52,8 @@ static bool share(const struct window *v, const struct window *w)
 
 /* ---- reading */
 
-static const uint8_t COMMAND_BYTES[COMMANDS] = {[END] = 1, [CODE] = 5, [DATA] = 5, [STACK] = 5, [ENTRY] = 7, [MARK] = 11, [NAME] = 11};
+static const uint8_t COMMAND_BYTES[COMMANDS] = {
+    [END] = 1, [CODE] = 5, [DATA] = 5, [STACK] = 5, [ENTRY] = 7, [MARK] = 11, [NAME] = 11};
 
 /* The causes 4, 5 and 6 of a window, which is kept. */
 static uint32_t read_window(struct routine *r, const uint8_t *bytes)
@@ -83,7 +85,10 @@ static uint32_t read_entry(struct routine *r, const uint8_t *bytes)
 /* The causes 3, 4 and 7 of a mark, which is kept. */
 static uint32_t read_mark(struct routine *r, const uint8_t *bytes)
 {
-    struct mark m = {.address = word_at(bytes + 1), .cost = long_at(bytes + 3), .depth = word_at(bytes + 7), .need = word_at(bytes + 9)};
+    struct mark m = {.address = word_at(bytes + 1),
+                     .cost = long_at(bytes + 3),
+                     .depth = word_at(bytes + 7),
+                     .need = word_at(bytes + 9)};
 
     if (r->count != 0 && m.address <= r->marks[r->count - 1].address)
         return 3;
@@ -157,12 +162,12 @@ static struct refusal read_ticket(struct routine *r, const uint8_t *ticket, size
 
 /* ---- the rules at a mark */
 
-/* A mark, its instruction, and the marks at its successors: those that it has, and of these NULL where there is none. */
+/* A mark, its instruction, which successors that has, and the marks there: NULL where there is none. */
 struct site {
     const struct mark *own, *next, *target;
     const struct instruction *instruction;
     bool has_next, has_target;
-    bool leaves; /* the code window */
+    bool leaves;      /* the code window */
     uint16_t address; /* of the write, the jump or the call */
 };
 
@@ -267,11 +272,13 @@ static inline bool applies(uint8_t cause, const struct routine *r, const struct 
     case 14:
         return (s->has_next && s->next == NULL) || (s->has_target && s->target == NULL);
     case 15:
-        return depth_differs(s, s->next) || (call ? s->target != NULL && s->target->depth != 0 : depth_differs(s, s->target));
+        return depth_differs(s, s->next) ||
+               (call ? s->target != NULL && s->target->depth != 0 : depth_differs(s, s->target));
     case 16:
         return s->own->cost < least_cost(s);
     case 17:
-        return need_exceeds(s, s->next) || (call ? s->target != NULL && s->own->need < 2 + s->target->need : need_exceeds(s, s->target));
+        return need_exceeds(s, s->next) ||
+               (call ? s->target != NULL && s->own->need < 2 + s->target->need : need_exceeds(s, s->target));
     }
     return false;
 }
@@ -320,8 +327,8 @@ static struct refusal judge(const struct routine *r, const uint8_t *image, size_
     return (struct refusal){0, 0};
 }
 
-uint32_t peer_verdict(const uint8_t *ticket, size_t ticket_length, const uint8_t *image, size_t image_length, uint16_t *entry,
-                      uint32_t *cost, uint16_t *stack, uint32_t *place)
+uint32_t peer_verdict(const uint8_t *ticket, size_t ticket_length, const uint8_t *image, size_t image_length,
+                      uint16_t *entry, uint32_t *cost, uint16_t *stack, uint32_t *place)
 {
     struct routine r;
     struct refusal first = read_ticket(&r, ticket, ticket_length);

@@ -1,6 +1,6 @@
 /*
- * The 68HC11's instructions as a verdict needs them, by place in the four opcode maps: length, cycles, and what the rules at a mark ask. A length of 0 is
- * a place without an instruction.
+ * The 68HC11's instructions as a verdict needs them, by place in the four opcode maps: length, cycles, and what the
+ * rules at a mark ask. A length of 0 is a place without an instruction.
  */
 #ifndef PEER_INSTRUCTIONS_H
 #define PEER_INSTRUCTIONS_H
@@ -9,7 +9,7 @@
 /* Where control goes. FLOW_UNKNOWN: the bytes do not tell; such an instruction is kept out. */
 enum flow { FLOW_NEXT, FLOW_BOTH, FLOW_TARGET, FLOW_CALL, FLOW_RETURN, FLOW_UNKNOWN };
 
-/* How the address of a write, a jump or a call stands in the bytes: RELATIVE in the last, the others after the opcode. */
+/* How the address of a write, a jump or a call stands in the bytes: RELATIVE in the last, else after the opcode. */
 enum operand { NO_ADDRESS, DIRECT, EXTENDED, RELATIVE };
 
 struct instruction {
@@ -35,16 +35,21 @@ enum { PLAIN_MAP, MAP_18, MAP_1A, MAP_CD, MAPS };
 #define OUT_PULL(l, c, n) {.length = l, .cycles = c, .kept_out = 1, .pulled = n, .flow = FLOW_UNKNOWN}
 #define OUT_JUMP(l, c) {.length = l, .cycles = c, .kept_out = 1, .flow = FLOW_UNKNOWN}
 
-/* One operation on a byte or a word in immediate, direct, indexed and extended form, its opcodes $10 apart; with a prefix all are a byte and a cycle longer. */
-#define READ_BYTE(op) [op] = PLAIN(2, 2), [op + 0x10] = PLAIN(2, 3), [op + 0x20] = PLAIN(2, 4), [op + 0x30] = PLAIN(3, 4)
-#define READ_WORD(op, c) [op] = PLAIN(3, c), [op + 0x10] = PLAIN(2, c + 1), [op + 0x20] = PLAIN(2, c + 2), [op + 0x30] = PLAIN(3, c + 2)
+/* A read of a byte or a word in immediate, direct, indexed and extended form, whose opcodes are $10 apart. */
+#define READ_BYTE(op) \
+    [op] = PLAIN(2, 2), [op + 0x10] = PLAIN(2, 3), [op + 0x20] = PLAIN(2, 4), [op + 0x30] = PLAIN(3, 4)
+#define READ_WORD(op, c) \
+    [op] = PLAIN(3, c), [op + 0x10] = PLAIN(2, c + 1), [op + 0x20] = PLAIN(2, c + 2), [op + 0x30] = PLAIN(3, c + 2)
 #define READ_WORD_PREFIXED(op, c) \
     [op] = PLAIN(4, c), [op + 0x10] = PLAIN(3, c + 1), [op + 0x20] = PLAIN(3, c + 2), [op + 0x30] = PLAIN(4, c + 2)
 /* A store in direct, indexed and extended form. */
-#define STORE(op, c, n) [op] = WRITE(2, c, DIRECT, n), [op + 0x10] = OUT(2, c + 1), [op + 0x20] = WRITE(3, c + 1, EXTENDED, n)
-#define STORE_PREFIXED(op, c, n) [op] = WRITE(3, c, DIRECT, n), [op + 0x10] = OUT(3, c + 1), [op + 0x20] = WRITE(4, c + 1, EXTENDED, n)
+#define STORE(op, c, n) \
+    [op] = WRITE(2, c, DIRECT, n), [op + 0x10] = OUT(2, c + 1), [op + 0x20] = WRITE(3, c + 1, EXTENDED, n)
+#define STORE_PREFIXED(op, c, n) \
+    [op] = WRITE(3, c, DIRECT, n), [op + 0x10] = OUT(3, c + 1), [op + 0x20] = WRITE(4, c + 1, EXTENDED, n)
 /* A read-modify-write on A, B, an indexed and an extended byte. */
-#define CHANGE(op) [op] = PLAIN(1, 2), [op + 0x10] = PLAIN(1, 2), [op + 0x20] = OUT(2, 6), [op + 0x30] = WRITE(3, 6, EXTENDED, 1)
+#define CHANGE(op) \
+    [op] = PLAIN(1, 2), [op + 0x10] = PLAIN(1, 2), [op + 0x20] = OUT(2, 6), [op + 0x30] = WRITE(3, 6, EXTENDED, 1)
 
 static const struct instruction INSTRUCTIONS[MAPS][256] = {
     [PLAIN_MAP] = {

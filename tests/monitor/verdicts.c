@@ -1,130 +1,130 @@
 /*
- * Routines judged through jugrond.h: the specification's lines under "Further, run", each cause from 9 to 20 at a known place, what is let in beside it, which of several causes is
- * answered, and the largest ticket. What is expected stands beside each routine, by hand from the specification.
- * Prints a line for each difference and last the count; the exit status tells.
+ * Routines judged by a verdict: the specification's lines under "Further, run", each cause from 1 to 20 at a known
+ * place, what is let in beside it, which of two causes is answered, windows at the ends of memory, and the largest
+ * ticket. What is expected stands beside each routine, by hand from the specification: the number of a cause and its
+ * place, or entry, cost and stack; the other numbers stay as they are lent.
  */
-#include "jugrond.h"
+#include "verdicts.h"
 
-#include <inttypes.h>
 #include <stdio.h>
-#include <stdlib.h>
 #include <string.h>
 
-struct mark {
-    uint16_t address;
-    uint32_t cost;
-    uint16_t depth, need;
-};
+static verdict_function *verdict;
+static const char *shown;
+static struct tally tally;
 
-/* The code window starts at $8000, the data window at $0040 and the stack window at $01F0. */
-struct routine {
-    uint16_t code, data, stack, entry;
-    uint32_t limit;
-    struct mark marks[4096];
-    size_t count;
-    uint8_t image[4097];
-    size_t length;
-};
-
-#define HEADER_BYTES 22
-#define MARK_BYTES 11
-
-static int passed, failed;
-
-static uint8_t *put(uint8_t *at, uint32_t value, int bytes)
+static void judge(const char *name, const struct judged *r, const uint8_t *ticket, size_t length, struct answer wanted)
 {
-    for (int i = bytes - 1; i >= 0; i--)
-        *at++ = (uint8_t)(value >> (8 * i));
-    return at;
-}
+    struct answer got = answer_of(verdict, ticket, length, r->image, r->length);
 
-static uint8_t *put_window(uint8_t *at, uint8_t command, uint16_t start, uint16_t length)
-{
-    return put(put(put(at, command, 1), start, 2), length, 2);
-}
-
-/* The ticket's bytes, without some at their end. */
-static size_t ticket_of(const struct routine *r, size_t cut, uint8_t *bytes)
-{
-    uint8_t *at = put_window(bytes, 1, 0x8000, r->code);
-
-    at = put_window(at, 2, 0x0040, r->data);
-    at = put_window(at, 3, 0x01f0, r->stack);
-    at = put(put(put(at, 4, 1), r->entry, 2), r->limit, 4);
-    for (size_t i = 0; i < r->count; i++) {
-        const struct mark *m = &r->marks[i];
-
-        at = put(put(put(put(put(at, 5, 1), m->address, 2), m->cost, 4), m->depth, 2), m->need, 2);
-    }
-    at = put(at, 0, 1);
-    return (size_t)(at - bytes) - cut;
-}
-
-struct answer {
-    uint32_t outcome, cost, place;
-    uint16_t entry, stack;
-};
-
-static void judge(const char *name, const struct routine *r, size_t cut, struct answer wanted)
-{
-    static uint8_t ticket[HEADER_BYTES + 4096 * MARK_BYTES + 1];
-    size_t length = ticket_of(r, cut, ticket);
-    struct answer got;
-
-    got.outcome = jugrond_verdict(ticket, length, r->image, r->length, &got.entry, &got.cost, &got.stack, &got.place);
-    if (got.outcome == wanted.outcome && got.cost == wanted.cost && got.place == wanted.place && got.entry == wanted.entry &&
-        got.stack == wanted.stack) {
-        passed++;
+    if (same(&got, &wanted)) {
+        tally.passed++;
     } else {
-        failed++;
-        printf("DIFFERENCE %s: outcome %" PRIu32 " at %" PRIu32 ", entry %" PRIu16 ", cost %" PRIu32 ", stack %" PRIu16 "\n", name, got.outcome,
-               got.place, got.entry, got.cost, got.stack);
+        tally.failed++;
+        if (shown != NULL) {
+            printf("DIFFERENCE by %s, ", shown);
+            print_answer(name, &got);
+        }
     }
 }
 
-static void accepted(const char *name, const struct routine *r, uint16_t entry, uint32_t cost, uint16_t stack)
+static struct answer acceptance(uint16_t entry, uint32_t cost, uint16_t stack)
 {
-    judge(name, r, 0, (struct answer){.outcome = JUGROND_ACCEPTED, .entry = entry, .cost = cost, .stack = stack});
+    return (struct answer){.outcome = 0, .entry = entry, .cost = cost, .stack = stack, .place = LENT.place};
 }
 
-static void refused(const char *name, const struct routine *r, uint32_t number, uint32_t place)
+static struct answer refusal(uint32_t number, uint32_t place)
 {
-    judge(name, r, 0, (struct answer){.outcome = number, .place = place});
+    return (struct answer){
+        .outcome = number, .entry = LENT.entry, .cost = LENT.cost, .stack = LENT.stack, .place = place};
+}
+
+static uint8_t ticket[MOST_TICKET_BYTES + 1];
+
+static void accepted(const char *name, const struct judged *r, uint16_t entry, uint32_t cost, uint16_t stack)
+{
+    judge(name, r, ticket, ticket_of(r, ticket), acceptance(entry, cost, stack));
+}
+
+static void refused(const char *name, const struct judged *r, uint32_t number, uint32_t place)
+{
+    judge(name, r, ticket, ticket_of(r, ticket), refusal(number, place));
+}
+
+/* With another byte in the ticket. */
+static void refused_with(const char *name, const struct judged *r, size_t at, uint8_t byte, uint32_t number,
+                         uint32_t place)
+{
+    size_t length = ticket_of(r, ticket);
+
+    ticket[at] = byte;
+    judge(name, r, ticket, length, refusal(number, place));
+}
+
+/* With so many bytes of the ticket; one more than there are is a zero. */
+static void refused_at_length(const char *name, const struct judged *r, size_t length, uint32_t number, uint32_t place)
+{
+    ticket[ticket_of(r, ticket)] = 0;
+    judge(name, r, ticket, length, refusal(number, place));
 }
 
 /* An image as a string literal. */
 #define IMAGE(bytes) bytes, sizeof(bytes) - 1
 
-static void set_image(struct routine *r, const char *image, size_t length)
+static void set_image(struct judged *r, const char *image, size_t length)
 {
     memcpy(r->image, image, length);
     r->length = length;
 }
 
-static void set_mark(struct routine *r, size_t i, uint16_t address, uint32_t cost, uint16_t depth, uint16_t need)
+static void set_mark(struct judged *r, size_t i, uint16_t address, uint32_t cost, uint16_t depth, uint16_t need)
 {
     r->marks[i] = (struct mark){address, cost, depth, need};
 }
 
 /* Each of the following gives the one routine that there is, to be changed and judged. */
-static struct routine *blank(const char *image, size_t length)
+static struct judged *blank(const char *image, size_t length)
 {
-    static struct routine r;
+    static struct judged r;
 
     memset(&r, 0, sizeof r);
     set_image(&r, image, length);
-    r.code = (uint16_t)length;
-    r.data = 2;
-    r.stack = 5;
+    r.code = (struct window){0x8000, (uint16_t)length};
+    r.data = (struct window){0x0040, 2};
+    r.stack = (struct window){0x01f0, 5};
     r.entry = 0x8000;
     r.limit = 100;
     return &r;
 }
 
-/* An instruction alone, with more cycles and stack than it can need. */
-static struct routine *alone(const char *image, size_t length)
+#define MARK(address, cost, depth, need) ((struct mark){address, cost, depth, need})
+
+static struct judged *marked_twice(const char *image, size_t length, struct mark first, struct mark second)
 {
-    struct routine *r = blank(image, length);
+    struct judged *r = blank(image, length);
+
+    r->count = 2;
+    r->marks[0] = first;
+    r->marks[1] = second;
+    return r;
+}
+
+/* The same instructions in another code window, entered at its first address; the marks move with it, and no data
+ * window is in the way. */
+static struct judged *moved(struct judged *r, uint16_t start)
+{
+    for (size_t i = 0; i < r->count; i++)
+        r->marks[i].address = (uint16_t)(r->marks[i].address - r->code.start + start);
+    r->code.start = start;
+    r->data.start = 0x4000;
+    r->entry = start;
+    return r;
+}
+
+/* An instruction alone, with more cycles and stack than it can need. */
+static struct judged *alone(const char *image, size_t length)
+{
+    struct judged *r = blank(image, length);
 
     r->count = 1;
     set_mark(r, 0, 0x8000, 100, 0, 100);
@@ -132,9 +132,9 @@ static struct routine *alone(const char *image, size_t length)
 }
 
 /* An instruction and an RTS at an address; the cost is that of both. */
-static struct routine *returning(const char *image, size_t length, uint16_t rts, uint32_t cost)
+static struct judged *returning(const char *image, size_t length, uint16_t rts, uint32_t cost)
 {
-    struct routine *r = blank(image, length);
+    struct judged *r = blank(image, length);
 
     r->count = 2;
     set_mark(r, 0, 0x8000, cost, 0, 0);
@@ -143,9 +143,9 @@ static struct routine *returning(const char *image, size_t length, uint16_t rts,
 }
 
 /* Two instructions of one byte and an RTS, with one byte pushed between them. */
-static struct routine *pushing(const char *image, uint32_t first, uint32_t second)
+static struct judged *pushing(const char *image, uint32_t first, uint32_t second)
 {
-    struct routine *r = blank(image, 3);
+    struct judged *r = blank(image, 3);
 
     r->count = 3;
     set_mark(r, 0, 0x8000, first, 0, 1);
@@ -154,11 +154,11 @@ static struct routine *pushing(const char *image, uint32_t first, uint32_t secon
     return r;
 }
 
-static struct routine *p(void)
+static struct judged *p(void)
 {
-    struct routine *r = blank(IMAGE("\x36\xbd\x80\x08\x32\x39\x01\x01\x97\x40\x39"));
+    struct judged *r = blank(IMAGE("\x36\xbd\x80\x08\x32\x39\x01\x01\x97\x40\x39"));
 
-    r->data = 1;
+    r->data.length = 1;
     r->limit = 26;
     r->count = 6;
     set_mark(r, 0, 0x8000, 26, 0, 3);
@@ -171,29 +171,29 @@ static struct routine *p(void)
 }
 
 /* P with another mark. */
-static struct routine *p_but(size_t i, uint16_t address, uint32_t cost, uint16_t depth, uint16_t need)
+static struct judged *p_but(size_t i, uint16_t address, uint32_t cost, uint16_t depth, uint16_t need)
 {
-    struct routine *r = p();
+    struct judged *r = p();
 
     set_mark(r, i, address, cost, depth, need);
     return r;
 }
 
-static struct routine *p_without(size_t i)
+static struct judged *p_without(size_t i)
 {
-    struct routine *r = p();
+    struct judged *r = p();
 
     r->count--;
     memmove(&r->marks[i], &r->marks[i + 1], (r->count - i) * sizeof r->marks[0]);
     return r;
 }
 
-static struct routine *p_under(uint16_t data, uint16_t stack, uint16_t entry, uint32_t limit)
+static struct judged *p_under(uint16_t data, uint16_t stack, uint16_t entry, uint32_t limit)
 {
-    struct routine *r = p();
+    struct judged *r = p();
 
-    r->data = data;
-    r->stack = stack;
+    r->data.length = data;
+    r->stack.length = stack;
     r->entry = entry;
     r->limit = limit;
     return r;
@@ -201,25 +201,81 @@ static struct routine *p_under(uint16_t data, uint16_t stack, uint16_t entry, ui
 
 static void further(void)
 {
-    struct routine *r;
+    struct judged *r;
 
     accepted("P", p(), 0x8000, 26, 5);
     refused("P with a data window of 0 bytes", p_under(0, 5, 0x8000, 26), 12, 0x8008);
     r = p();
-    r->code = 4096;
+    r->code.length = 4096;
     r->length = 4096;
     accepted("P in a code window of 4,096 bytes", r, 0x8000, 26, 5);
-    r->code = 4097;
+    r->code.length = 4097;
     r->length = 4097;
     refused("P in a code window of 4,097 bytes", r, 4, 0);
     r = returning(IMAGE("\xdd\x40\x39"), 0x8002, 9);
-    r->data = 1;
+    r->data.length = 1;
     refused("STD to the data window's last byte", r, 12, 0x8000);
+}
+
+/* P's ticket has its windows at 0, 5 and 10, its entry at 15, its marks from 22 on, 11 bytes each, and its end at 88.
+ */
+static void reading(void)
+{
+    struct judged *r;
+
+    refused_with("an unknown first command", p(), 0, 0xff, 1, 0);
+    refused_with("an unknown command for a mark", p(), 33, 0xff, 1, 33);
+    refused_with("an unknown command for the end", p(), 88, 0xff, 1, 88);
+    refused_at_length("no ticket", p(), 0, 2, 0);
+    refused_at_length("P without its end", p(), 88, 2, 88);
+    refused_at_length("P without its last mark's last byte", p(), 87, 2, 77);
+    refused_with("a stack window second", p(), 5, 0x03, 3, 5);
+    refused_with("the end before the entry", p(), 15, 0x00, 3, 15);
+    refused_with("a code window for a mark", p(), 77, 0x01, 3, 77);
+    refused_with("a name for the first mark", p(), 22, 0x06, 3, 22);
+    refused("P with its first mark twice", p_but(1, 0x8000, 26, 0, 3), 3, 33);
+    refused("P with falling marks", p_but(2, 0x8000, 26, 0, 3), 3, 44);
+    refused("P with limit 0", p_under(1, 5, 0x8000, 0), 4, 15);
+    refused("P with limit 2,000,001", p_under(1, 5, 0x8000, 2000001), 4, 15);
+    refused("P with a data window of 8,193 bytes", p_under(8193, 5, 0x8000, 26), 4, 5);
+    refused("P with a stack of 1", p_under(1, 1, 0x8000, 26), 4, 10);
+    refused("P with a stack of 1,025", p_under(1, 1025, 0x8000, 26), 4, 10);
+    refused("P with cost 2,000,001", p_but(5, 0x800a, 2000001, 0, 0), 4, 77);
+    refused("P with depth 1,023", p_but(1, 0x8001, 23, 1023, 2), 4, 33);
+    refused("P with need 1,023", p_but(0, 0x8000, 26, 0, 1023), 4, 22);
+    r = p();
+    r->code.start = 0;
+    refused("code at $0000", r, 5, 0);
+    r->code.start = 0xfff6;
+    refused("code past $FFFF", r, 5, 0);
+    r = p_under(2, 5, 0x8000, 26);
+    r->data.start = 0xffff;
+    refused("data past $FFFF", r, 5, 5);
+    r = p();
+    r->stack.start = 0;
+    refused("stack at $0000", r, 5, 10);
+    r->stack.start = 0xfffc;
+    refused("stack past $FFFF", r, 5, 10);
+    r->stack.start = 0xfffb;
+    accepted("stack up to $FFFF", r, 0x8000, 26, 5);
+    r = p();
+    r->data.start = 0x800a;
+    refused("data on code's last byte", r, 6, 5);
+    r->data.start = 0x7fff;
+    refused("data below code, P's STAA outside it", r, 12, 0x8008);
+    r = p();
+    r->stack.start = 0x003c;
+    refused("stack's last byte on data", r, 6, 10);
+    r->stack.start = 0x7ffc;
+    refused("stack's last byte on code", r, 6, 10);
+    refused("P with a mark past its code", p_but(5, 0x800b, 5, 0, 0), 7, 77);
+    refused("P with a mark before its code", p_but(0, 0x7fff, 26, 0, 3), 7, 22);
+    refused_at_length("P and a byte after its end", p(), 90, 8, 89);
 }
 
 static void images(void)
 {
-    struct routine *r = p();
+    struct judged *r = p();
 
     r->length = 10;
     refused("P without its last byte", r, 9, 0);
@@ -298,7 +354,7 @@ static void stores(void)
 
 static void pulls(void)
 {
-    struct routine *r;
+    struct judged *r;
 
     refused("PULA", returning(IMAGE("\x32\x39"), 0x8001, 9), 13, 0x8000);
     refused("INS", returning(IMAGE("\x31\x39"), 0x8001, 8), 13, 0x8000);
@@ -318,7 +374,8 @@ static void unmarked(void)
     refused("NOP at the window's end", alone(IMAGE("\x01")), 14, 0x8000);
     refused("BEQ to $8003, which is not marked", returning(IMAGE("\x27\x01\x39\x39"), 0x8002, 8), 14, 0x8000);
     refused("BEQ, next not marked", returning(IMAGE("\x27\x01\x39\x39"), 0x8003, 8), 14, 0x8000);
-    refused("BRCLR to $8005, which is not marked", returning(IMAGE("\x13\x40\x01\x01\x39\x39"), 0x8004, 11), 14, 0x8000);
+    refused("BRCLR to $8005, which is not marked", returning(IMAGE("\x13\x40\x01\x01\x39\x39"), 0x8004, 11), 14,
+            0x8000);
     accepted("BRN, only next marked", returning(IMAGE("\x21\x01\x39\x39"), 0x8002, 8), 0x8000, 8, 2);
     accepted("BRA, only its target marked", returning(IMAGE("\x20\x01\x39\x39"), 0x8003, 8), 0x8000, 8, 2);
     accepted("JMP $8003, only its target marked", returning(IMAGE("\x7e\x80\x03\x39"), 0x8003, 8), 0x8000, 8, 2);
@@ -326,7 +383,7 @@ static void unmarked(void)
 
 static void claims(void)
 {
-    struct routine *r;
+    struct judged *r;
 
     refused("P with depth 0 at $8001", p_but(1, 0x8001, 23, 0, 2), 15, 0x8000);
     refused("P with depth 1 where it calls", p_but(4, 0x8008, 8, 1, 0), 15, 0x8001);
@@ -348,7 +405,7 @@ static void claims(void)
 
 static void whole(void)
 {
-    struct routine *r;
+    struct judged *r;
 
     refused("P with its entry at $8002", p_under(1, 5, 0x8002, 26), 18, 0x8002);
     refused("P with its entry at $8001", p_under(1, 5, 0x8001, 26), 18, 0x8001);
@@ -363,26 +420,265 @@ static void whole(void)
     accepted("P with a stack of 6", p_under(1, 6, 0x8000, 26), 0x8000, 26, 5);
 }
 
+/* BSR at $8000 to $8003, and two RTS: after it and there. */
+static struct judged *bsr(uint32_t cost, uint16_t need)
+{
+    struct judged *r = blank(IMAGE("\x8d\x01\x39\x39"));
+
+    r->count = 3;
+    r->marks[0] = MARK(0x8000, cost, 0, need);
+    r->marks[1] = MARK(0x8002, 5, 0, 0);
+    r->marks[2] = MARK(0x8003, 5, 0, 0);
+    return r;
+}
+
+static void calls(void)
+{
+    struct judged *r;
+
+    accepted("BSR forwards", bsr(16, 2), 0x8000, 16, 4);
+    refused("BSR, cost too low by 1", bsr(15, 2), 16, 0x8000);
+    refused("BSR, need too low by 1", bsr(16, 1), 17, 0x8000);
+    r = bsr(16, 2);
+    r->marks[1].depth = 1;
+    refused("BSR, depth 1 after it", r, 15, 0x8000);
+    r = bsr(16, 2);
+    r->marks[2].depth = 1;
+    refused("BSR, depth 1 where it calls", r, 15, 0x8000);
+    r = bsr(16, 2);
+    r->marks[1].need = 3;
+    refused("BSR, need 3 after it", r, 17, 0x8000);
+    r = bsr(16, 2);
+    r->marks[2].need = 1;
+    refused("BSR, need 1 where it calls", r, 17, 0x8000);
+    r = bsr(16, 2);
+    r->count = 2;
+    refused("BSR, its target not marked", r, 14, 0x8000);
+    r->marks[1] = MARK(0x8003, 5, 0, 0);
+    refused("BSR, the address after it not marked", r, 14, 0x8000);
+
+    r = blank(IMAGE("\x39\x8d\xfd\x39"));
+    r->entry = 0x8001;
+    r->count = 3;
+    r->marks[0] = MARK(0x8000, 5, 0, 0);
+    r->marks[1] = MARK(0x8001, 16, 0, 2);
+    r->marks[2] = MARK(0x8003, 5, 0, 0);
+    accepted("BSR backwards", r, 0x8001, 16, 4);
+    r->marks[1].cost = 15;
+    refused("BSR backwards, cost too low by 1", r, 16, 0x8001);
+
+    accepted("BSR to the next", marked_twice(IMAGE("\x8d\x00\x39"), MARK(0x8000, 16, 0, 2), MARK(0x8002, 5, 0, 0)),
+             0x8000, 16, 4);
+    refused("BSR to the next, cost of one way",
+            marked_twice(IMAGE("\x8d\x00\x39"), MARK(0x8000, 11, 0, 2), MARK(0x8002, 5, 0, 0)), 16, 0x8000);
+    refused("BSR to itself", marked_twice(IMAGE("\x8d\xfe\x39"), MARK(0x8000, 2000000, 0, 100), MARK(0x8002, 5, 0, 0)),
+            16, 0x8000);
+
+    r = blank(IMAGE("\x36\x8d\x02\x32\x39\x39"));
+    r->count = 5;
+    r->marks[0] = MARK(0x8000, 23, 0, 3);
+    r->marks[1] = MARK(0x8001, 20, 1, 2);
+    r->marks[2] = MARK(0x8003, 9, 1, 0);
+    r->marks[3] = MARK(0x8004, 5, 0, 0);
+    r->marks[4] = MARK(0x8005, 5, 0, 0);
+    accepted("BSR with a byte pushed", r, 0x8000, 23, 5);
+}
+
+/* JSR direct at the window's first address, an RTS and the RTS that it calls. */
+static struct judged *jsr_direct(const char *image, uint16_t start, uint32_t cost)
+{
+    struct judged *r = blank(image, 4);
+
+    r->count = 3;
+    r->marks[0] = MARK(0x8000, cost, 0, 2);
+    r->marks[1] = MARK(0x8002, 5, 0, 0);
+    r->marks[2] = MARK(0x8003, 5, 0, 0);
+    return moved(r, start);
+}
+
+/* Code windows that start at $0001, lie in page zero, or end at $FFFF. */
+static void ends_of_memory(void)
+{
+    struct judged *r;
+
+    accepted("code at $0001", moved(pushing("\x36\x32\x39", 12, 9), 0x0001), 0x0001, 12, 3);
+    refused("code at $0001, RTS with a byte pushed", moved(pushing("\x36\x39\x39", 12, 9), 0x0001), 13, 0x0002);
+    refused("BRA from $0001 to $0000", moved(alone(IMAGE("\x20\xfd")), 0x0001), 14, 0x0001);
+    refused("BRA from $0001 to $FFFF", moved(alone(IMAGE("\x20\xfc")), 0x0001), 14, 0x0001);
+    refused("BSR from $0001 to $FFFF", moved(returning(IMAGE("\x8d\xfc\x39"), 0x8002, 100), 0x0001), 14, 0x0001);
+    refused("JMP $0000", moved(alone(IMAGE("\x7e\x00\x00")), 0x0001), 14, 0x0001);
+    r = moved(returning(IMAGE("\x97\x00\x39"), 0x8002, 8), 0x0001);
+    r->data = (struct window){0x0000, 1};
+    accepted("STAA $00, data at $0000 below code", r, 0x0001, 8, 2);
+    r->data = (struct window){0x0004, 1};
+    refused("STAA $00, data above code", r, 12, 0x0001);
+
+    accepted("JSR direct in page zero", jsr_direct("\x9d\x83\x39\x39", 0x0080, 15), 0x0080, 15, 4);
+    refused("JSR direct, cost too low by 1", jsr_direct("\x9d\x83\x39\x39", 0x0080, 14), 16, 0x0080);
+    accepted("JSR direct to $00FF", jsr_direct("\x9d\xff\x39\x39", 0x00fc, 15), 0x00fc, 15, 4);
+    refused("JSR direct to $0000", jsr_direct("\x9d\x00\x39\x39", 0x00fc, 15), 14, 0x00fc);
+    refused("JSR direct from page one", jsr_direct("\x9d\x83\x39\x39", 0x0180, 15), 14, 0x0180);
+    r = jsr_direct("\x9d\x83\x39\x39", 0x0080, 15);
+    r->marks[2].depth = 1;
+    refused("JSR direct, depth 1 where it calls", r, 15, 0x0080);
+    r = jsr_direct("\x9d\x83\x39\x39", 0x0080, 15);
+    r->marks[0].need = 1;
+    refused("JSR direct, need too low by 1", r, 17, 0x0080);
+    refused("STAA into code in page zero", moved(returning(IMAGE("\x97\x80\x39"), 0x8002, 8), 0x0080), 12, 0x0080);
+
+    r = alone(IMAGE("\x39"));
+    set_mark(r, 0, 0x8000, 5, 0, 0);
+    accepted("RTS alone at $FFFF", moved(r, 0xffff), 0xffff, 5, 2);
+    accepted("code up to $FFFF", moved(pushing("\x36\x32\x39", 12, 9), 0xfffd), 0xfffd, 12, 3);
+    refused("NOP at $FFFF, after it $0000", moved(alone(IMAGE("\x01")), 0xffff), 14, 0xffff);
+    refused("BRA at $FFFE to $0000", moved(alone(IMAGE("\x20\x00")), 0xfffe), 14, 0xfffe);
+    refused("BNE at $FFFE to itself, after it $0000", moved(alone(IMAGE("\x26\xfe")), 0xfffe), 14, 0xfffe);
+    refused("BSR at $FFFE to $FFFD, after it $0000",
+            moved(marked_twice(IMAGE("\x39\x8d\xfd"), MARK(0x8000, 5, 0, 0), MARK(0x8001, 100, 0, 9)), 0xfffd), 14,
+            0xfffe);
+    refused("LDAA immediate at $FFFF", moved(alone(IMAGE("\x86")), 0xffff), 10, 0xffff);
+    refused("JSR extended at $FFFE", moved(alone(IMAGE("\xbd\xff")), 0xfffe), 10, 0xfffe);
+    accepted("BRA at $FFFC to $FFFF", moved(returning(IMAGE("\x20\x01\x01\x39"), 0x8003, 8), 0xfffc), 0xfffc, 8, 2);
+    refused("BEQ at $FFFC to $0000", moved(returning(IMAGE("\x27\x02\x39\x39"), 0x8002, 8), 0xfffc), 14, 0xfffc);
+    r = returning(IMAGE("\xfd\xff\xfe\x39"), 0x8003, 10);
+    r->data.start = 0xfffe;
+    accepted("STD $FFFE, data up to $FFFF", r, 0x8000, 10, 2);
+    r->image[2] = 0xff;
+    refused("STD $FFFF, data up to $FFFF", r, 12, 0x8000);
+    r->data.start = 0;
+    refused("STD $FFFF, data from $0000", r, 12, 0x8000);
+}
+
+/* Of two successors either may be the one that is too dear, or has another depth. */
+static void two_successors(void)
+{
+    struct judged *r = blank(IMAGE("\x27\x01\x39\x39"));
+
+    r->count = 3;
+    set_mark(r, 0, 0x8000, 12, 0, 4);
+    set_mark(r, 1, 0x8002, 9, 0, 4);
+    set_mark(r, 2, 0x8003, 9, 0, 4);
+    r->stack.length = 6;
+    accepted("BEQ", r, 0x8000, 12, 6);
+    r->marks[1].cost = 10;
+    refused("BEQ, its next too dear", r, 16, 0x8000);
+    r->marks[1].need = 5;
+    r->marks[1].cost = 9;
+    refused("BEQ, its next needs more", r, 17, 0x8000);
+    r->marks[1].need = 4;
+    r->marks[1].depth = 1;
+    refused("BEQ, its next at another depth", r, 15, 0x8000);
+    r->marks[1].depth = 0;
+    r->marks[2].cost = 10;
+    refused("BEQ, its target too dear", r, 16, 0x8000);
+    r->marks[2].cost = 9;
+    r->marks[2].need = 5;
+    refused("BEQ, its target needs more", r, 17, 0x8000);
+    r->marks[2].need = 4;
+    r->marks[2].depth = 1;
+    refused("BEQ, its target at another depth", r, 15, 0x8000);
+}
+
+/* Two causes that apply: at one place the lower number is answered, else the earlier place. 10 never meets 13 or 15,
+ * nor 12 either 11 or 13. */
 static void order(void)
 {
-    struct routine *r = p();
+    struct judged *r = p();
 
     r->length = 0;
-    judge("2 before 9", r, 1, (struct answer){.outcome = 2, .place = 88});
+    refused_at_length("2 before 9", r, 88, 2, 88);
+    refused_at_length("8 before 9", r, 90, 8, 89);
     r->limit = 25;
     refused("9 before 19", r, 9, 0);
-    refused("16 before 17 at a mark", p_but(1, 0x8001, 22, 1, 1), 16, 0x8001);
-    refused("15 before 16 at a mark", p_but(1, 0x8001, 27, 0, 2), 15, 0x8000);
+    r = p();
+    r->image[0] = 0x41;
+    r->length = 10;
+    refused("9 before 10", r, 9, 0);
     refused("the lower mark first", p_but(2, 0x8004, 8, 0, 0), 15, 0x8001);
     refused("marks before 18", p_under(0, 5, 0x8002, 25), 12, 0x8008);
+}
+
+static void order_of_10(void)
+{
+    struct judged *r;
+
+    refused("10 before 11: LDS without its last byte", alone(IMAGE("\x8e\x01")), 10, 0x8000);
+    refused("10 before 12: BSET $42 without its mask", alone(IMAGE("\x14\x42")), 10, 0x8000);
+    refused("10 before 14: LDAA without its operand", alone(IMAGE("\x86")), 10, 0x8000);
+    r = alone(IMAGE("\x86"));
+    r->marks[0].cost = 0;
+    refused("10 before 16: LDAA without its operand, cost 0", r, 10, 0x8000);
+    r = alone(IMAGE("\xbd\x80"));
+    r->marks[0].need = 0;
+    refused("10 before 17: JSR without its last byte, need 0", r, 10, 0x8000);
+}
+
+static void order_of_11_and_12(void)
+{
+    refused("11 before 13: RTI, which pulls nine bytes", alone(IMAGE("\x3b")), 11, 0x8000);
+    refused("11 before 14: LDS, next not marked", alone(IMAGE("\x8e\x01\xf2")), 11, 0x8000);
+    refused("11 before 15: LDS", marked_twice(IMAGE("\x8e\x01\xf2\x39"), MARK(0x8000, 8, 0, 0), MARK(0x8003, 5, 1, 0)),
+            11, 0x8000);
+    refused("11 before 16: LDS", marked_twice(IMAGE("\x8e\x01\xf2\x39"), MARK(0x8000, 7, 0, 0), MARK(0x8003, 5, 0, 0)),
+            11, 0x8000);
+    refused("11 before 17: LDS", marked_twice(IMAGE("\x8e\x01\xf2\x39"), MARK(0x8000, 8, 0, 0), MARK(0x8003, 5, 0, 1)),
+            11, 0x8000);
+    refused("12 before 14: STAA $42, next not marked", alone(IMAGE("\x97\x42")), 12, 0x8000);
+    refused("12 before 15: STAA $42", marked_twice(IMAGE("\x97\x42\x39"), MARK(0x8000, 8, 0, 0), MARK(0x8002, 5, 1, 0)),
+            12, 0x8000);
+    refused("12 before 16: STAA $42", marked_twice(IMAGE("\x97\x42\x39"), MARK(0x8000, 7, 0, 0), MARK(0x8002, 5, 0, 0)),
+            12, 0x8000);
+    refused("12 before 17: STAA $42", marked_twice(IMAGE("\x97\x42\x39"), MARK(0x8000, 8, 0, 0), MARK(0x8002, 5, 0, 1)),
+            12, 0x8000);
+}
+
+static void order_of_13(void)
+{
+    struct judged *r;
+
+    refused("13 before 14: PULA, next not marked", alone(IMAGE("\x32")), 13, 0x8000);
+    refused("13 before 15: PULA", marked_twice(IMAGE("\x32\x39"), MARK(0x8000, 9, 0, 0), MARK(0x8001, 5, 0, 0)), 13,
+            0x8000);
+    r = alone(IMAGE("\x39"));
+    set_mark(r, 0, 0x8000, 4, 1, 0);
+    refused("13 before 16: RTS", r, 13, 0x8000);
+    refused("13 before 17: PULA", marked_twice(IMAGE("\x32\x39"), MARK(0x8000, 9, 0, 0), MARK(0x8001, 5, 0, 2)), 13,
+            0x8000);
+}
+
+/* BEQ at $8000, next $8002, to $8003. BSR at $8000, following address $8002, to $8003. */
+static void order_of_14_to_16(void)
+{
+    refused("14 before 15: BEQ, next not marked",
+            marked_twice(IMAGE("\x27\x01\x39\x39"), MARK(0x8000, 8, 0, 0), MARK(0x8003, 5, 1, 0)), 14, 0x8000);
+    refused("14 before 15: BEQ, target not marked",
+            marked_twice(IMAGE("\x27\x01\x39\x39"), MARK(0x8000, 8, 0, 0), MARK(0x8002, 5, 1, 0)), 14, 0x8000);
+    refused("14 before 15: BSR, following address not marked",
+            marked_twice(IMAGE("\x8d\x01\x39\x39"), MARK(0x8000, 16, 0, 2), MARK(0x8003, 5, 1, 0)), 14, 0x8000);
+    refused("14 before 15: BSR, target not marked",
+            marked_twice(IMAGE("\x8d\x01\x39\x39"), MARK(0x8000, 16, 0, 2), MARK(0x8002, 5, 1, 0)), 14, 0x8000);
+    refused("14 before 16: BEQ", marked_twice(IMAGE("\x27\x01\x39\x39"), MARK(0x8000, 7, 0, 0), MARK(0x8003, 5, 0, 0)),
+            14, 0x8000);
+    refused("14 before 17: BEQ", marked_twice(IMAGE("\x27\x01\x39\x39"), MARK(0x8000, 8, 0, 0), MARK(0x8003, 5, 0, 1)),
+            14, 0x8000);
+    refused("15 before 16", p_but(1, 0x8001, 27, 0, 2), 15, 0x8000);
+    refused("15 before 17", p_but(1, 0x8001, 23, 0, 3), 15, 0x8000);
+    refused("16 before 17", p_but(1, 0x8001, 22, 1, 1), 16, 0x8001);
+}
+
+/* At $8001 P has cost 23, depth 1 and need 2. */
+static void order_of_the_whole(void)
+{
+    refused("18 before 19", p_under(1, 5, 0x8001, 22), 18, 0x8001);
+    refused("18 before 20", p_under(1, 3, 0x8001, 26), 18, 0x8001);
     refused("19 before 20", p_under(1, 4, 0x8000, 25), 19, 0x8000);
 }
 
-/* 4,095 NOPs and an RTS, each marked. */
+/* 4,095 NOPs and an RTS, each marked; the code window may end at $FFFF. */
 static void largest(void)
 {
     static char nops[4096];
-    struct routine *r;
+    struct judged *r;
 
     memset(nops, 0x01, sizeof nops);
     nops[4095] = 0x39;
@@ -392,22 +688,37 @@ static void largest(void)
     for (uint16_t i = 0; i < 4096; i++)
         set_mark(r, i, (uint16_t)(0x8000 + i), (4095u - i) * 2 + 5, 0, 0);
     accepted("4,096 marks", r, 0x8000, 8195, 2);
-    set_mark(r, 4094, 0x8ffe, 6, 0, 0);
-    refused("4,096 marks, 6 at the last NOP", r, 16, 0x8ffe);
+    accepted("4,096 marks up to $FFFF", moved(r, 0xf000), 0xf000, 8195, 2);
+    set_mark(r, 4094, 0xfffe, 6, 0, 0);
+    refused("4,096 marks, 6 at the last NOP", r, 16, 0xfffe);
+    set_mark(r, 4094, 0xfffe, 7, 0, 0);
+    r->image[4095] = 0x01;
+    refused("4,096 marks, NOP at $FFFF", r, 14, 0xffff);
 }
 
-int main(void)
+struct tally judge_routines(verdict_function *by, const char *name)
 {
+    verdict = by;
+    shown = name;
+    tally = (struct tally){0, 0};
     further();
+    reading();
     images();
     forbidden();
     stores();
     pulls();
     unmarked();
     claims();
+    two_successors();
+    calls();
+    ends_of_memory();
     whole();
     order();
+    order_of_10();
+    order_of_11_and_12();
+    order_of_13();
+    order_of_14_to_16();
+    order_of_the_whole();
     largest();
-    printf("%d passed, %d failed\n", passed, failed);
-    return failed == 0 ? EXIT_SUCCESS : EXIT_FAILURE;
+    return tally;
 }
