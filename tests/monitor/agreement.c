@@ -162,7 +162,7 @@ static void try_opcodes(void)
 static void try_made(void)
 {
     static struct judged r;
-    static uint8_t ticket[MOST_TICKET_BYTES + NAME_BYTES];
+    static uint8_t ticket[MOST_TICKET_BYTES + 2 * NAME_BYTES];
     size_t length;
 
     make_routine(&r);

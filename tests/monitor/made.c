@@ -211,7 +211,9 @@ static void change_header(struct judged *r)
         w->length = (uint16_t)near(w->length);
         break;
     case 2:
-        r->data.start = (uint16_t)(r->code.start + chance(200) - 100);
+        r->data.start = (uint16_t)(w->start + chance(200) - 100);
+        if (chance(3) == 0)
+            r->data.length = 0;
         break;
     case 3:
         r->entry = (uint16_t)(chance(2) == 0 ? near(r->entry) : r->marks[chance((uint32_t)r->count)].address);
@@ -263,6 +265,7 @@ void change_routine(struct judged *r)
     }
 }
 
+/* A name may come to stand behind another. */
 static size_t put_name(uint8_t *ticket, size_t length)
 {
     size_t marks = (length - HEADER_BYTES - 1) / MARK_BYTES;
@@ -292,6 +295,6 @@ size_t change_ticket(uint8_t *ticket, size_t length)
         ticket[HEADER_BYTES + MARK_BYTES * chance((uint32_t)(length - HEADER_BYTES) / MARK_BYTES)] = (uint8_t)chance(8);
         return length;
     default:
-        return put_name(ticket, length);
+        return chance(4) == 0 ? put_name(ticket, put_name(ticket, length)) : put_name(ticket, length);
     }
 }

@@ -13,7 +13,7 @@ void make_routine(struct judged *r);
 /* Changes one thing: a claim, a mark, a byte of the image, the header. */
 void change_routine(struct judged *r);
 
-/* Changes a ticket of so many bytes, with room for NAME_BYTES more: a byte, its length, or a name put in. Answers its
+/* Changes a ticket of so many bytes, with room for two names more: a byte, its length, or names put in. Answers its
    new length. */
 size_t change_ticket(uint8_t *ticket, size_t length);
 

@@ -217,6 +217,31 @@ static void further(void)
     refused("STD to the data window's last byte", r, 12, 0x8000);
 }
 
+/* P's ticket with names after its first mark, at 33 and 44. */
+static void named(const char *name, size_t names, uint16_t address, char first, struct answer wanted)
+{
+    uint8_t command[MARK_BYTES] = {
+        6, (uint8_t)(address >> 8), (uint8_t)address, (uint8_t)first, 'A', ' ', 'N', 'A', 'M', 'E', '~'};
+    struct judged *r = p();
+    size_t length = ticket_of(r, ticket), after = HEADER_BYTES + MARK_BYTES;
+
+    memmove(ticket + after + names * MARK_BYTES, ticket + after, length - after);
+    for (size_t i = 0; i < names; i++)
+        memcpy(ticket + after + i * MARK_BYTES, command, MARK_BYTES);
+    judge(name, r, ticket, length + names * MARK_BYTES, wanted);
+}
+
+static void names(void)
+{
+    named("P with a name", 1, 0x8000, ' ', acceptance(0x8000, 26, 5));
+    named("a name with $7E", 1, 0x8000, 0x7e, acceptance(0x8000, 26, 5));
+    named("two names at a mark", 2, 0x8000, ' ', refusal(3, 44));
+    named("a name of another address", 1, 0x8001, ' ', refusal(3, 33));
+    named("a name with $1F", 1, 0x8000, 0x1f, refusal(4, 33));
+    named("a name with $7F", 1, 0x8000, 0x7f, refusal(4, 33));
+    named("a name of another address with $7F", 1, 0x8001, 0x7f, refusal(3, 33));
+}
+
 /* P's ticket has its windows at 0, 5 and 10, its entry at 15, its marks from 22 on, 11 bytes each, and its end at 88.
  */
 static void reading(void)
@@ -268,6 +293,11 @@ static void reading(void)
     refused("stack's last byte on data", r, 6, 10);
     r->stack.start = 0x7ffc;
     refused("stack's last byte on code", r, 6, 10);
+    r = returning(IMAGE("\x01\x39"), 0x8001, 7);
+    r->data = (struct window){0x8001, 0};
+    accepted("no data, its start in code", r, 0x8000, 7, 2);
+    r->data.start = 0x01f2;
+    accepted("no data, its start in the stack", r, 0x8000, 7, 2);
     refused("P with a mark past its code", p_but(5, 0x800b, 5, 0, 0), 7, 77);
     refused("P with a mark before its code", p_but(0, 0x7fff, 26, 0, 3), 7, 22);
     refused_at_length("P and a byte after its end", p(), 90, 8, 89);
@@ -702,6 +732,7 @@ struct tally judge_routines(verdict_function *by, const char *name)
     shown = name;
     tally = (struct tally){0, 0};
     further();
+    names();
     reading();
     images();
     forbidden();
