@@ -1,8 +1,9 @@
 /*
- * A second verdict, hand-written in C from the specification and the manual's opcode map, with an index of the marks by
- * code address. The proved one is measured against it (bench/verdict) and compared with it (tests/monitor). It answers
- * as jugrond_verdict does: 0 with *entry, *cost and *stack, or the number of a cause with *place; what it does not
- * answer stays as it was lent.
+ * A second verdict, hand-written in C to the specification, with an index of the marks by code address; it shares no
+ * code and no table with the proved one, which is measured against it (bench/verdict) and compared with it
+ * (tests/monitor).
+ * It answers as jugrond_verdict does: 0 with *entry, *cost and *stack, or the number of a cause with *place; what it
+ * does not answer stays as it was lent.
  */
 #ifndef PEER_H
 #define PEER_H

@@ -1,8 +1,7 @@
 /*
- * The library's verdict and that of bench/peer.c, which was written apart from it, must agree: on each place of the
- * opcode maps with claims around the least that are accepted, and on routines made up by chance, accepted ones and
- * changed ones; all are the same in every run. Each answer from 0 to 20 must occur. An argument gives another number of
- * made-up routines.
+ * The library's verdict and the second one, bench/peer.c, must agree: on each place of the opcode maps with claims
+ * around the least that are accepted, and on routines made up by chance, some of them then changed; all are the same in
+ * every run. Each outcome from 0 to 20 must occur. An argument gives another number of made-up routines.
  * Prints a line for each difference, how often each outcome occurred, and last the count; the exit status tells.
  */
 #include "jugrond.h"

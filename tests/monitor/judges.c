@@ -1,6 +1,6 @@
 /*
- * The routines of verdicts.c judged twice: by the library, and by the verdict of bench/peer.c, which was written apart
- * from it. Prints a line for each difference and last the count; the exit status tells.
+ * The routines of verdicts.c judged twice: by the library, and by the second verdict, bench/peer.c.
+ * Prints a line for each difference and last the count; the exit status tells.
  */
 #include "jugrond.h"
 #include "peer.h"
