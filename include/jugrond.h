@@ -1,11 +1,16 @@
 /*
- * The 68HC11 stepper, the verdict on a routine and its start, for the press monitor. Link with libmonitor.a, which `rt staticlib monitor` writes to target/staticlib/.
+ * The 68HC11 stepper, the verdict on a routine and its start, for the press monitor. Link with libmonitor.a, which
+ * `rt staticlib monitor` writes to target/staticlib/.
  *
- * Registers are 11 bytes, words high byte first; the offsets are below. The flags are S X H I N Z V C from bit 7 to bit 0.
- * Memory is 65,536 bytes: the byte at address n has index n, and every address wraps.
+ * Registers are 11 bytes, words high byte first; the offsets are below. The flags are S X H I N Z V C from bit 7 to
+ * bit 0. Memory is 65,536 bytes: the byte at address n has index n, and every address wraps.
  *
  * A buffer is lent as a pointer and its length in bytes. Pointers are not null, and what they lend does not overlap.
  * A call keeps nothing that was lent to it, and touches no byte past the lengths.
+ *
+ * What a call does not answer it leaves as it was lent. A refusal writes its place and nothing else; only a run that is
+ * stopped on its way keeps what was done before, and writes its cycles too. Where nothing is refused, the place is not
+ * written. So the outcome alone tells which lent numbers are written: each call below names them.
  */
 #ifndef JUGROND_H
 #define JUGROND_H
@@ -29,11 +34,37 @@ extern "C" {
 #define JUGROND_PC 8
 #define JUGROND_FLAGS 10
 
+/*
+ * A slot keeps what a start needs of a routine that was judged: windows, entry and limit as the ticket has them, then
+ * the certified figures. Its numbers are high byte first, at these offsets, and of two bytes where nothing is said.
+ */
+#define JUGROND_SLOT_BYTES 24
+#define JUGROND_SLOT_CODE 0 /* code window: first address */
+#define JUGROND_SLOT_CODE_LENGTH 2
+#define JUGROND_SLOT_DATA 4 /* data window: first address */
+#define JUGROND_SLOT_DATA_LENGTH 6
+#define JUGROND_SLOT_STACK 8 /* stack window: first address */
+#define JUGROND_SLOT_STACK_LENGTH 10
+#define JUGROND_SLOT_ENTRY 12
+#define JUGROND_SLOT_LIMIT 14       /* the ticket's limit in cycles, 4 bytes */
+#define JUGROND_SLOT_COST 18        /* certified cycles, 4 bytes */
+#define JUGROND_SLOT_STACK_BYTES 22 /* the most stack bytes that it uses, home's two included */
+
+/*
+ * The host's stack, in bytes: a thread with the first figure can make any call, one with the second can reset, step,
+ * run and start from a slot. With less the program dies. Measured by bench/stack of the library that this source makes
+ * for x86-64: what the deepest call uses, and at least 16 KiB besides for the thread's own data, the frames above the
+ * call and a signal's, in whole pages of 4 KiB. The tests make every call in threads of exactly these sizes.
+ */
+#define JUGROND_HOST_STACK_BYTES 544768
+#define JUGROND_HOST_STACK_TICK_BYTES 32768
+
 /* Outcomes. A refusal has its number in the specification; its place is written to *place. */
 #define JUGROND_DONE 0            /* a reset or a step was done */
 #define JUGROND_HOME 0            /* a run reached PC $0000 */
-#define JUGROND_ACCEPTED 0        /* a routine was accepted, or accepted and started */
-#define JUGROND_BAD_LENGTH 21     /* registers not 11 bytes, or memory not 65,536; place 0 */
+#define JUGROND_ACCEPTED 0        /* a routine was accepted, or accepted and started, or started from its slot */
+#define JUGROND_BAD_IMAGE 9       /* the image's length is not the code window's; place 0 */
+#define JUGROND_BAD_LENGTH 21     /* registers not 11 bytes, memory not 65,536 or a slot not 24; place 0 */
 #define JUGROND_NO_INSTRUCTION 22 /* no such instruction; place PC */
 #define JUGROND_WAITS 23          /* WAI, STOP or TEST; place PC */
 #define JUGROND_SPENT 100         /* the next instruction of a run would pass the budget */
@@ -46,43 +77,69 @@ uint32_t jugrond_reset(uint8_t *registers, size_t registers_length);
 
 /*
  * Executes the instruction at PC.
- * Outcomes: JUGROND_DONE, with the registers and the memory after it and its cycles in *cycles; JUGROND_BAD_LENGTH,
- * JUGROND_NO_INSTRUCTION or JUGROND_WAITS, with no register and no byte of memory changed and 0 cycles.
- * *cycles and *place are written in every case; *place is 0 where nothing is refused.
+ * JUGROND_DONE: registers and memory are those after it, *cycles its cycles; *place is not written.
+ * JUGROND_BAD_LENGTH, looked at first: *place is 0. JUGROND_NO_INSTRUCTION, JUGROND_WAITS: *place is PC. In these three
+ * nothing else is written: *cycles, every register byte and every byte of memory stay.
  */
 uint32_t jugrond_step(uint8_t *registers, size_t registers_length, uint8_t *memory, size_t memory_length,
                       uint32_t *cycles, uint16_t *place);
 
 /*
- * Executes instructions until PC is $0000, the next one is refused, or it would take the cycles past the budget, looked at in
- * that order before each. A budget of 0 executes none.
- * Outcomes: JUGROND_HOME, JUGROND_SPENT, JUGROND_NO_INSTRUCTION or JUGROND_WAITS, each with the registers and the memory
- * reached and the cycles spent in *cycles, so that a refusal keeps what was done before it; JUGROND_BAD_LENGTH, looked at
- * first, with nothing changed and 0 cycles.
- * *cycles and *place are written in every case; *place is 0 where nothing is refused.
+ * Executes instructions until PC is $0000, the next one is refused, or it would take the cycles past the budget, looked
+ * at in that order before each. A budget of 0 executes none.
+ * JUGROND_HOME, JUGROND_SPENT: registers and memory are those reached, *cycles the cycles spent; *place is not written.
+ * JUGROND_NO_INSTRUCTION, JUGROND_WAITS: the same, and *place is PC, so that a refusal keeps what was done before it.
+ * Where it is the first instruction, *cycles is 0 and registers and memory stay.
+ * JUGROND_BAD_LENGTH, looked at first: *place is 0, nothing else is written.
  */
-uint32_t jugrond_run(uint8_t *registers, size_t registers_length, uint8_t *memory, size_t memory_length, uint32_t budget,
-                     uint32_t *cycles, uint16_t *place);
+uint32_t jugrond_run(uint8_t *registers, size_t registers_length, uint8_t *memory, size_t memory_length,
+                     uint32_t budget, uint32_t *cycles, uint16_t *place);
 
 /*
  * Judges a routine by its ticket and its image.
- * Outcomes: JUGROND_ACCEPTED, with its entry, its certified cycles in *cost and its stack bytes in *stack; 1 to 20, the specification's number of the
- * first cause for which it is refused, with that cause's place (for 1 to 8 an offset in the ticket, from 10 on an address).
+ * JUGROND_ACCEPTED: *entry is its entry, *cost its certified cycles, *stack its stack bytes; *place is not written.
+ * 1 to 20, the specification's number of the first cause for which it is refused: *place is that cause's place (for 1
+ * to 8 an offset in the ticket, for 9 it is 0, from 10 on an address); *entry, *cost and *stack stay.
  * An accepted routine that is started as jugrond_start does comes home within *cost cycles, whatever the data.
- * All four numbers are written in every case: those that say nothing are 0.
  */
-uint32_t jugrond_verdict(const uint8_t *ticket, size_t ticket_length, const uint8_t *image, size_t image_length, uint16_t *entry,
-                         uint32_t *cost, uint16_t *stack, uint32_t *place);
+uint32_t jugrond_verdict(const uint8_t *ticket, size_t ticket_length, const uint8_t *image, size_t image_length,
+                         uint16_t *entry, uint32_t *cost, uint16_t *stack, uint32_t *place);
 
 /*
- * Judges a routine and, where it is accepted, starts it: the image goes to the code window, two zero bytes to the end of the stack window, SP below
- * them and PC to the entry. A, B, X, Y, flags and every other byte of memory stay as they are lent. jugrond_run then brings it home.
- * Outcomes: JUGROND_ACCEPTED; JUGROND_BAD_LENGTH, looked at first; 1 to 20 as jugrond_verdict. Unless it is accepted, no register and no byte of
- * memory is changed.
- * *place is written in every case; it is 0 where nothing is refused.
+ * Judges a routine and, where it is accepted, starts it: the image goes to the code window, two zero bytes to the end
+ * of the stack window, SP below them and PC to the entry. A, B, X, Y, flags and every other byte of memory stay as they
+ * are lent. jugrond_run then brings it home.
+ * JUGROND_ACCEPTED: registers and memory are the start; *place is not written.
+ * JUGROND_BAD_LENGTH, looked at first: *place is 0. 1 to 20 as jugrond_verdict: *place is the cause's place. In both
+ * nothing else is written.
  */
-uint32_t jugrond_start(const uint8_t *ticket, size_t ticket_length, const uint8_t *image, size_t image_length, uint8_t *registers,
-                       size_t registers_length, uint8_t *memory, size_t memory_length, uint32_t *place);
+uint32_t jugrond_start(const uint8_t *ticket, size_t ticket_length, const uint8_t *image, size_t image_length,
+                       uint8_t *registers, size_t registers_length, uint8_t *memory, size_t memory_length,
+                       uint32_t *place);
+
+/*
+ * Judges a routine once and, where it is accepted, fills a slot, from which it can be started again and again.
+ * JUGROND_ACCEPTED: all 24 bytes of the slot are filled; *place is not written.
+ * JUGROND_BAD_LENGTH, looked at first: *place is 0. 1 to 20 as jugrond_verdict: *place is the cause's place. In both
+ * nothing else is written: the slot keeps what it held.
+ */
+uint32_t jugrond_certify(const uint8_t *ticket, size_t ticket_length, const uint8_t *image, size_t image_length,
+                         uint8_t *slot, size_t slot_length, uint32_t *place);
+
+/*
+ * Starts, without judging it, the routine that the slot was filled for: registers and memory as jugrond_start has them.
+ * JUGROND_ACCEPTED: registers and memory are the start; *place is not written.
+ * JUGROND_BAD_LENGTH, slot, registers or memory, looked at first: *place is 0. JUGROND_BAD_IMAGE, the image's length is
+ * not the slot's code length: *place is 0. In both nothing else is written.
+ * From a slot that jugrond_certify filled for this image the routine comes home, as after jugrond_start. The image's
+ * bytes are not looked at again: lend those that were judged.
+ * Any 24 bytes are taken for a slot. Of others than jugrond_certify wrote nothing is promised but what is stored where:
+ * the image, then home's two bytes, SP and PC, by the slot's numbers, addresses wrapping. A slot of zeros is refused
+ * with JUGROND_BAD_IMAGE, but for an image of no bytes.
+ */
+uint32_t jugrond_start_certified(const uint8_t *slot, size_t slot_length, const uint8_t *image, size_t image_length,
+                                 uint8_t *registers, size_t registers_length, uint8_t *memory, size_t memory_length,
+                                 uint32_t *place);
 
 #ifdef __cplusplus
 }

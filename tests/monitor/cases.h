@@ -18,7 +18,10 @@ struct bytes {
     uint8_t byte[12];
 };
 
-/* Memory that is not named in `given` or `written` holds a background that no call may change. */
+/*
+ * Memory that is not named in `given` or `written` holds a background that no call may change. `cycles` and `place`
+ * count where the outcome writes them.
+ */
 struct call {
     const char *name;
     struct registers before;

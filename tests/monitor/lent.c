@@ -5,7 +5,9 @@
 #include <string.h>
 
 #define GUARD_BYTE 0xa5
-#define FILLER 0xee
+
+const uint8_t fillers[FILLERS] = {0xee, 0x17};
+uint8_t filler = 0xee;
 
 struct lent lend(const uint8_t *content, size_t length, size_t guard)
 {
@@ -23,7 +25,7 @@ struct lent lend(const uint8_t *content, size_t length, size_t guard)
     if (content != NULL)
         memcpy(l.bytes, content, length);
     else
-        memset(l.bytes, FILLER, length);
+        memset(l.bytes, filler, length);
     return l;
 }
 
@@ -39,7 +41,9 @@ size_t first_difference(const struct lent *l, const uint8_t *wanted)
 {
     size_t i = 0;
 
-    while (i < l->length && l->bytes[i] == wanted[i])
+    if (wanted != NULL && memcmp(l->bytes, wanted, l->length) == 0) /* quick on 65,536 bytes, and under valgrind */
+        return l->length;
+    while (i < l->length && l->bytes[i] == (wanted == NULL ? filler : wanted[i]))
         i++;
     return i;
 }

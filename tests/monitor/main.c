@@ -1,40 +1,18 @@
 /*
- * Calls each entry of jugrond.h on good and bad input, and looks at every byte of what was lent and at guard bytes around it.
+ * Calls reset, step and run of jugrond.h on good and bad input, with every outcome, and looks at every byte and number
+ * that was lent and at guard bytes around them. What a call does not answer must be as it was lent.
  * Prints a line for each difference and for each group, and last the groups' count; the exit status tells.
  */
 #include "jugrond.h"
 
 #include "cases.h"
+#include "expect.h"
 #include "lent.h"
 
-#include <inttypes.h>
+#include <stdbool.h>
 #include <stdio.h>
 #include <stdlib.h>
 #include <string.h>
-
-static int differences; /* in this group */
-
-static void expect_number(const char *name, const char *what, uint32_t got, uint32_t wanted)
-{
-    if (got != wanted) {
-        differences++;
-        printf("DIFFERENCE %s: %s %" PRIu32 " instead of %" PRIu32 "\n", name, what, got, wanted);
-    }
-}
-
-static void expect_bytes(const char *name, const char *what, const struct lent *l, const uint8_t *wanted)
-{
-    size_t at = first_difference(l, wanted);
-
-    if (at < l->length) {
-        differences++;
-        printf("DIFFERENCE %s: %s: byte %zu is %02x instead of %02x\n", name, what, at, l->bytes[at], wanted[at]);
-    }
-    if (!guards_kept(l)) {
-        differences++;
-        printf("DIFFERENCE %s: a byte outside the %s was written\n", name, what);
-    }
-}
 
 static void put_word(uint8_t *bytes, uint16_t word)
 {
@@ -53,13 +31,6 @@ static void pack(uint8_t *bytes, const struct registers *r)
     bytes[JUGROND_FLAGS] = r->flags;
 }
 
-/* Bytes that differ from address to address, so that a byte stored, moved or cleared is seen. */
-static void fill_background(uint8_t *memory, size_t length)
-{
-    for (size_t i = 0; i < length; i++)
-        memory[i] = (uint8_t)(i ^ (i >> 8) ^ 0x5a);
-}
-
 static void put_bytes(uint8_t *memory, const struct bytes *blocks, size_t count)
 {
     for (size_t i = 0; i < count; i++)
@@ -67,7 +38,7 @@ static void put_bytes(uint8_t *memory, const struct bytes *blocks, size_t count)
             memory[(blocks[i].at + j) % JUGROND_MEMORY_BYTES] = blocks[i].byte[j];
 }
 
-/* What one call was lent, and what must stand there afterwards. */
+/* What one call was lent. */
 struct lending {
     struct lent registers, memory, cycles, place;
 };
@@ -96,13 +67,29 @@ static uint32_t call_run(struct lending *l, uint32_t budget)
                        (uint32_t *)(void *)l->cycles.bytes, (uint16_t *)(void *)l->place.bytes);
 }
 
-static void expect_all(const char *name, struct lending *l, const uint8_t *registers, const uint8_t *memory, uint32_t cycles,
-                       uint16_t place)
+/* Which lent numbers an outcome writes. */
+struct written {
+    bool cycles, place;
+};
+
+static struct written by_step(uint32_t outcome)
+{
+    return (struct written){.cycles = outcome == JUGROND_DONE, .place = outcome != JUGROND_DONE};
+}
+
+static struct written by_run(uint32_t outcome)
+{
+    return (struct written){.cycles = outcome != JUGROND_BAD_LENGTH,
+                            .place = outcome != JUGROND_HOME && outcome != JUGROND_SPENT};
+}
+
+static void expect_all(const char *name, struct lending *l, const uint8_t *registers, const uint8_t *memory,
+                       struct written written, uint32_t cycles, uint16_t place)
 {
     expect_bytes(name, "registers", &l->registers, registers);
     expect_bytes(name, "memory", &l->memory, memory);
-    expect_bytes(name, "cycles", &l->cycles, (const uint8_t *)&cycles);
-    expect_bytes(name, "place", &l->place, (const uint8_t *)&place);
+    expect_lent(name, "cycles", &l->cycles, written.cycles, cycles);
+    expect_lent(name, "place", &l->place, written.place, place);
 }
 
 static void take_back_all(struct lending *l)
@@ -126,7 +113,7 @@ static void check_call(const struct call *c, bool is_run, size_t guard)
     expect_number(c->name, "outcome", is_run ? call_run(&l, c->budget) : call_step(&l), c->outcome);
     put_bytes(memory, c->written, sizeof c->written / sizeof c->written[0]);
     pack(registers, &c->after);
-    expect_all(c->name, &l, registers, memory, c->cycles, c->place);
+    expect_all(c->name, &l, registers, memory, is_run ? by_run(c->outcome) : by_step(c->outcome), c->cycles, c->place);
     take_back_all(&l);
 }
 
@@ -154,7 +141,7 @@ static void check_layout(size_t guard)
     memory[0x090a] = 0x01;
     l = lend_all(before, sizeof before, memory, sizeof memory, guard);
     expect_number("NOP", "outcome", call_step(&l), JUGROND_DONE);
-    expect_all("NOP", &l, after, memory, 2, 0);
+    expect_all("NOP", &l, after, memory, by_step(JUGROND_DONE), 2, 0);
     take_back_all(&l);
 }
 
@@ -178,11 +165,11 @@ static void check_length(const char *name, size_t registers_length, size_t memor
     fill_background(memory, sizeof memory);
     l = lend_all(registers, registers_length, memory, memory_length, guard);
     expect_number(name, "outcome of a step", call_step(&l), JUGROND_BAD_LENGTH);
-    expect_all(name, &l, registers, memory, 0, 0);
+    expect_all(name, &l, registers, memory, by_step(JUGROND_BAD_LENGTH), 0, 0);
     take_back_all(&l);
     l = lend_all(registers, registers_length, memory, memory_length, guard);
     expect_number(name, "outcome of a run", call_run(&l, 1000), JUGROND_BAD_LENGTH);
-    expect_all(name, &l, registers, memory, 0, 0);
+    expect_all(name, &l, registers, memory, by_run(JUGROND_BAD_LENGTH), 0, 0);
     take_back_all(&l);
     if (registers_length != JUGROND_REGISTER_BYTES) {
         struct lent reset = lend(registers, registers_length, guard);
@@ -229,7 +216,7 @@ static void check_in_turn(size_t guard)
     expect_number("P in turn", "cycles", sum, p->cycles);
     put_bytes(memory, p->written, sizeof p->written / sizeof p->written[0]);
     pack(registers, &p->after);
-    expect_all("P in turn", &l, registers, memory, 5, 0);
+    expect_all("P in turn", &l, registers, memory, by_step(JUGROND_DONE), 5, 0);
     take_back_all(&l);
 }
 
@@ -243,13 +230,11 @@ static const struct {
 
 int main(void)
 {
-    static const size_t guards[] = {64, 0};
     int passed = 0, failed = 0;
 
     for (size_t i = 0; i < sizeof groups / sizeof groups[0]; i++) {
         differences = 0;
-        for (size_t j = 0; j < sizeof guards / sizeof guards[0]; j++)
-            groups[i].check(guards[j]);
+        with_each_lending(groups[i].check);
         printf("%s %s\n", differences == 0 ? "ok" : "FAILED", groups[i].name);
         if (differences == 0)
             passed++;

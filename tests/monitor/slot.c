@@ -1,0 +1,378 @@
+/*
+ * Judges routine P of the specification, whole and damaged in each way, into a slot, starts it and others from slots,
+ * and runs what was started: jugrond_certify and jugrond_start_certified. Slots of any bytes are started too; what must
+ * stand in memory and registers then is computed here, from the header's words. Looks at every byte and number that was
+ * lent and at guard bytes around them. Prints a line for each difference and for each group, and last the groups'
+ * count; the exit status tells.
+ */
+#include "jugrond.h"
+
+#include "expect.h"
+#include "lent.h"
+#include "routines.h"
+
+#include <inttypes.h>
+#include <stdbool.h>
+#include <stdio.h>
+#include <stdlib.h>
+#include <string.h>
+
+#define LONGEST_IMAGE 65535 /* the most that a slot can name */
+
+static uint8_t ticket[P_TICKET_BYTES + 1], image[LONGEST_IMAGE + 1];
+static uint8_t background[JUGROND_MEMORY_BYTES + 1];
+
+/* The same bytes at each run of this program. */
+static uint32_t random_state;
+
+static uint32_t random_below(uint32_t bound)
+{
+    random_state ^= random_state << 13;
+    random_state ^= random_state >> 17;
+    random_state ^= random_state << 5;
+    return random_state % bound;
+}
+
+static void put_word(uint8_t *bytes, uint16_t word)
+{
+    bytes[0] = (uint8_t)(word >> 8);
+    bytes[1] = (uint8_t)word;
+}
+
+/* A slot that holds another routine's numbers before: a refusal must leave each of them. */
+static const uint8_t old_slot[JUGROND_SLOT_BYTES + 1] = {1,  2,  3,  4,  5,  6,  7,  8,  9,  10, 11, 12, 13,
+                                                         14, 15, 16, 17, 18, 19, 20, 21, 22, 23, 24, 25};
+
+static void check_certify(const struct routine *c, size_t slot_length, size_t guard)
+{
+    bool sized = slot_length == JUGROND_SLOT_BYTES;
+    uint32_t outcome = sized ? c->outcome : JUGROND_BAD_LENGTH;
+    struct lent t, i, s = lend(old_slot, slot_length, guard), place = lend(NULL, 4, guard);
+
+    make_ticket(c, ticket);
+    make_image(c, image);
+    t = lend(ticket, c->ticket_length, guard);
+    i = lend(image, c->image_length, guard);
+    expect_number(
+        c->name, "outcome of certify",
+        jugrond_certify(t.bytes, t.length, i.bytes, i.length, s.bytes, s.length, (uint32_t *)(void *)place.bytes),
+        outcome);
+    expect_bytes(c->name, "ticket", &t, ticket);
+    expect_bytes(c->name, "image", &i, image);
+    expect_bytes(c->name, "slot", &s, outcome == JUGROND_ACCEPTED ? c->slot : old_slot);
+    expect_lent(c->name, "place", &place, outcome != JUGROND_ACCEPTED, sized ? c->place : 0);
+    take_back(&t);
+    take_back(&i);
+    take_back(&s);
+    take_back(&place);
+}
+
+static void check_slots_filled(size_t guard)
+{
+    static const size_t lengths[] = {JUGROND_SLOT_BYTES, 0, 23, 25};
+
+    for (size_t i = 0; i < routine_count; i++)
+        for (size_t j = 0; j < sizeof lengths / sizeof lengths[0]; j++)
+            check_certify(&routines[i], lengths[j], guard);
+}
+
+/* What is lent to a start, and how much of it. */
+struct start {
+    const uint8_t *slot;
+    size_t slot_length, image_length, registers_length, memory_length;
+};
+
+static const uint8_t given[JUGROND_REGISTER_BYTES + 1] = {7,    8,    0x12, 0x34, 0x56, 0x78,
+                                                          0x9a, 0xbc, 0xde, 0xf0, 0x31, 0x99};
+
+static uint32_t start_outcome(const struct start *c)
+{
+    if (c->slot_length != JUGROND_SLOT_BYTES || c->registers_length != JUGROND_REGISTER_BYTES ||
+        c->memory_length != JUGROND_MEMORY_BYTES)
+        return JUGROND_BAD_LENGTH;
+    if (c->image_length != slot_number(c->slot, JUGROND_SLOT_CODE_LENGTH, 2))
+        return JUGROND_BAD_IMAGE;
+    return JUGROND_ACCEPTED;
+}
+
+/* The image to the code window, then two zero bytes to the end of the stack window, SP below them, PC to the entry;
+ * addresses wrap. */
+static void start_wanted(const uint8_t *slot, size_t image_length, uint8_t *registers, uint8_t *memory)
+{
+    uint32_t code = slot_number(slot, JUGROND_SLOT_CODE, 2);
+    uint32_t past = slot_number(slot, JUGROND_SLOT_STACK, 2) + slot_number(slot, JUGROND_SLOT_STACK_LENGTH, 2) +
+                    JUGROND_MEMORY_BYTES;
+
+    for (size_t i = 0; i < image_length; i++)
+        memory[(code + i) % JUGROND_MEMORY_BYTES] = image[i];
+    memory[(past - 1) % JUGROND_MEMORY_BYTES] = 0;
+    memory[(past - 2) % JUGROND_MEMORY_BYTES] = 0;
+    put_word(registers + JUGROND_SP, (uint16_t)(past - 3));
+    put_word(registers + JUGROND_PC, (uint16_t)slot_number(slot, JUGROND_SLOT_ENTRY, 2));
+}
+
+static void check_start(const char *name, const struct start *c, size_t guard)
+{
+    static uint8_t memory[JUGROND_MEMORY_BYTES + 1];
+    uint8_t registers[sizeof given];
+    uint32_t outcome = start_outcome(c);
+    struct lent s = lend(c->slot, c->slot_length, guard), i = lend(image, c->image_length, guard),
+                r = lend(given, c->registers_length, guard);
+    struct lent m = lend(background, c->memory_length, guard), place = lend(NULL, 4, guard);
+
+    memcpy(registers, given, sizeof registers);
+    memcpy(memory, background, sizeof memory);
+    if (outcome == JUGROND_ACCEPTED)
+        start_wanted(c->slot, c->image_length, registers, memory);
+    expect_number(name, "outcome of a start",
+                  jugrond_start_certified(s.bytes, s.length, i.bytes, i.length, r.bytes, r.length, m.bytes, m.length,
+                                          (uint32_t *)(void *)place.bytes),
+                  outcome);
+    expect_bytes(name, "slot", &s, c->slot);
+    expect_bytes(name, "image", &i, image);
+    expect_bytes(name, "registers", &r, registers);
+    expect_bytes(name, "memory", &m, memory);
+    expect_lent(name, "place", &place, outcome != JUGROND_ACCEPTED, 0);
+    take_back(&s);
+    take_back(&i);
+    take_back(&r);
+    take_back(&m);
+    take_back(&place);
+}
+
+/* Each length alone, right and wrong; and two wrong ones. With a wrong image too, the lengths that are refused come
+ * first. */
+static void check_lengths(size_t guard)
+{
+    static const size_t slots[] = {24, 0, 23, 25}, registers[] = {11, 0, 10, 12}, memories[] = {65536, 0, 65535, 65537},
+                        images[] = {11, 0, 10, 12};
+    uint8_t slot[JUGROND_SLOT_BYTES + 1] = {0};
+
+    memcpy(slot, routines[0].slot, JUGROND_SLOT_BYTES);
+    make_image(&routines[0], image);
+    for (size_t s = 0; s < 4; s++)
+        for (size_t r = 0; r < 4; r++)
+            for (size_t m = 0; m < 4; m++)
+                for (size_t i = 0; i < 4; i++) {
+                    struct start c = {slot, slots[s], images[i], registers[r], memories[m]};
+
+                    check_start("lengths", &c, guard);
+                }
+}
+
+/* The other lengths are right. */
+static void check_slot(const char *name, const uint8_t *slot, size_t image_length, size_t guard)
+{
+    struct start c = {slot, JUGROND_SLOT_BYTES, image_length, JUGROND_REGISTER_BYTES, JUGROND_MEMORY_BYTES};
+
+    check_start(name, &c, guard);
+}
+
+static void check_zeros(size_t guard)
+{
+    static const uint8_t zeros[JUGROND_SLOT_BYTES];
+
+    check_slot("zeros, an image of no bytes", zeros, 0, guard);
+    check_slot("zeros, an image of 1 byte", zeros, 1, guard);
+    check_slot("zeros, P", zeros, P_IMAGE_BYTES, guard);
+    check_slot("zeros, the longest image", zeros, LONGEST_IMAGE, guard);
+}
+
+/* Any bytes, with the image that the slot names and with another; the stack window ends often inside the image, and
+ * around $0000. */
+static void check_any_slots(size_t guard)
+{
+    random_state = 2463534242u;
+    for (size_t i = 0; i < sizeof image; i++)
+        image[i] = (uint8_t)(1 + random_below(255)); /* no zero: home's bytes are seen among them */
+    for (int i = 0; i < 400; i++) {
+        uint8_t slot[JUGROND_SLOT_BYTES];
+        uint32_t code, length;
+
+        for (size_t j = 0; j < sizeof slot; j++)
+            slot[j] = (uint8_t)random_below(256);
+        if (i % 2 == 0)
+            put_word(slot + JUGROND_SLOT_CODE_LENGTH, (uint16_t)random_below(4097));
+        code = slot_number(slot, JUGROND_SLOT_CODE, 2);
+        length = slot_number(slot, JUGROND_SLOT_CODE_LENGTH, 2);
+        if (i % 4 < 2) { /* the two last bytes of the stack window at, before or after the code window's ends */
+            uint32_t end = code + (i % 4 == 0 ? 0 : length) + random_below(5) - 2;
+
+            put_word(slot + JUGROND_SLOT_STACK, (uint16_t)(end - slot_number(slot, JUGROND_SLOT_STACK_LENGTH, 2)));
+        } else if (i % 4 == 2) { /* and at the ends of memory */
+            put_word(slot + JUGROND_SLOT_STACK,
+                     (uint16_t)(random_below(5) - 2 - slot_number(slot, JUGROND_SLOT_STACK_LENGTH, 2)));
+        }
+        check_slot("any slot", slot, length, guard);
+        check_slot("any slot, another image", slot, random_below(LONGEST_IMAGE + 1), guard);
+    }
+}
+
+/* A refused reload loses neither the slot nor the figures that the monitor keeps. */
+static void check_reload(size_t guard)
+{
+    (void)guard;
+    for (size_t i = 0; i < routine_count; i++) {
+        const struct routine *c = &routines[i];
+        uint8_t slot[JUGROND_SLOT_BYTES];
+        uint32_t cost = 0, place = 0;
+        uint16_t entry = 0, stack = 0;
+
+        make_ticket(&routines[0], ticket);
+        make_image(&routines[0], image);
+        expect_number("load", "certify",
+                      jugrond_certify(ticket, P_TICKET_BYTES, image, P_IMAGE_BYTES, slot, sizeof slot, &place),
+                      JUGROND_ACCEPTED);
+        expect_number("load", "verdict",
+                      jugrond_verdict(ticket, P_TICKET_BYTES, image, P_IMAGE_BYTES, &entry, &cost, &stack, &place),
+                      JUGROND_ACCEPTED);
+        if (c->outcome == JUGROND_ACCEPTED)
+            continue;
+        make_ticket(c, ticket);
+        make_image(c, image);
+        expect_number(c->name, "certify",
+                      jugrond_certify(ticket, c->ticket_length, image, c->image_length, slot, sizeof slot, &place),
+                      c->outcome);
+        expect_number(c->name, "verdict",
+                      jugrond_verdict(ticket, c->ticket_length, image, c->image_length, &entry, &cost, &stack, &place),
+                      c->outcome);
+        expect_number(c->name, "slot kept", memcmp(slot, routines[0].slot, sizeof slot) == 0, 1);
+        expect_number(c->name, "cost kept", cost, 26);
+        expect_number(c->name, "entry kept", entry, 0x8000);
+        expect_number(c->name, "stack kept", stack, 5);
+    }
+}
+
+struct file {
+    const char *name;
+    uint8_t bytes[4096];
+    size_t length;
+};
+
+static void read_file(struct file *f, const char *name)
+{
+    FILE *in = fopen(name, "rb");
+
+    if (in == NULL) {
+        perror(name);
+        exit(2);
+    }
+    f->name = name;
+    f->length = fread(f->bytes, 1, sizeof f->bytes, in);
+    fclose(in);
+}
+
+/* What a start and a run answer and leave. */
+struct run {
+    uint8_t registers[JUGROND_REGISTER_BYTES], memory[JUGROND_MEMORY_BYTES];
+    uint32_t started, outcome, cycles;
+    uint16_t place;
+};
+
+static void begin(struct run *r)
+{
+    memcpy(r->registers, given, sizeof r->registers);
+    memcpy(r->memory, background, sizeof r->memory);
+    r->cycles = 0;
+    r->place = 0;
+}
+
+static void go(struct run *r, uint32_t budget)
+{
+    r->outcome =
+        jugrond_run(r->registers, sizeof r->registers, r->memory, sizeof r->memory, budget, &r->cycles, &r->place);
+}
+
+/* Started from its slot a routine does what it does started from its ticket: the same registers, memory, cycles and
+ * outcome, home where the budget covers them. */
+static void check_example(const char *image_name, const char *ticket_name)
+{
+    static struct file code, paper;
+    static struct run judged, certified;
+    uint8_t slot[JUGROND_SLOT_BYTES];
+    uint32_t cost = 0, place = 0;
+    uint16_t entry = 0, stack = 0;
+
+    read_file(&code, image_name);
+    read_file(&paper, ticket_name);
+    expect_number(ticket_name, "verdict",
+                  jugrond_verdict(paper.bytes, paper.length, code.bytes, code.length, &entry, &cost, &stack, &place),
+                  JUGROND_ACCEPTED);
+    expect_number(ticket_name, "certify",
+                  jugrond_certify(paper.bytes, paper.length, code.bytes, code.length, slot, sizeof slot, &place),
+                  JUGROND_ACCEPTED);
+    /* the ticket's four first commands without their numbers, then the figures */
+    expect_number(ticket_name, "code window", memcmp(slot + JUGROND_SLOT_CODE, paper.bytes + 1, 4) == 0, 1);
+    expect_number(ticket_name, "data window", memcmp(slot + JUGROND_SLOT_DATA, paper.bytes + 6, 4) == 0, 1);
+    expect_number(ticket_name, "stack window", memcmp(slot + JUGROND_SLOT_STACK, paper.bytes + 11, 4) == 0, 1);
+    expect_number(ticket_name, "entry and limit", memcmp(slot + JUGROND_SLOT_ENTRY, paper.bytes + 16, 6) == 0, 1);
+    expect_number(ticket_name, "entry", slot_number(slot, JUGROND_SLOT_ENTRY, 2), entry);
+    expect_number(ticket_name, "cost", slot_number(slot, JUGROND_SLOT_COST, 4), cost);
+    expect_number(ticket_name, "stack bytes", slot_number(slot, JUGROND_SLOT_STACK_BYTES, 2), stack);
+
+    for (uint32_t budget = 0; budget <= cost + 2; budget++) {
+        uint32_t most = budget > cost ? (budget == cost + 1 ? UINT32_MAX : 2000000) : budget;
+
+        begin(&judged);
+        begin(&certified);
+        judged.started = jugrond_start(paper.bytes, paper.length, code.bytes, code.length, judged.registers,
+                                       sizeof judged.registers, judged.memory, sizeof judged.memory, &place);
+        certified.started =
+            jugrond_start_certified(slot, sizeof slot, code.bytes, code.length, certified.registers,
+                                    sizeof certified.registers, certified.memory, sizeof certified.memory, &place);
+        expect_number(ticket_name, "start", judged.started, JUGROND_ACCEPTED);
+        expect_number(ticket_name, "start from the slot", certified.started, JUGROND_ACCEPTED);
+        expect_number(ticket_name, "registers at the start",
+                      memcmp(judged.registers, certified.registers, sizeof judged.registers) == 0, 1);
+        expect_number(ticket_name, "memory at the start",
+                      memcmp(judged.memory, certified.memory, sizeof judged.memory) == 0, 1);
+        go(&judged, most);
+        go(&certified, most);
+        if (most >= cost)
+            expect_number(ticket_name, "outcome of the run", certified.outcome, JUGROND_HOME);
+        expect_number(ticket_name, "outcome", certified.outcome, judged.outcome);
+        expect_number(ticket_name, "cycles", certified.cycles, judged.cycles);
+        expect_number(ticket_name, "registers",
+                      memcmp(judged.registers, certified.registers, sizeof judged.registers) == 0, 1);
+        expect_number(ticket_name, "memory", memcmp(judged.memory, certified.memory, sizeof judged.memory) == 0, 1);
+    }
+}
+
+static void check_examples(size_t guard)
+{
+    (void)guard;
+    check_example("examples/p/p.bin", "examples/p/p.tkt");
+    check_example("examples/ramp/ramp.bin", "examples/ramp/ramp.tkt");
+    check_example("examples/shared/shared.bin", "examples/shared/shared.tkt");
+}
+
+static const struct {
+    const char *name;
+    void (*check)(size_t guard);
+    bool lends; /* in each way of lending */
+} groups[] = {
+    {"slots filled", check_slots_filled, true}, {"lengths", check_lengths, true},
+    {"a slot of zeros", check_zeros, true},     {"slots of any bytes", check_any_slots, true},
+    {"a refused reload", check_reload, false},  {"as from the ticket", check_examples, false},
+};
+
+int main(void)
+{
+    int passed = 0, failed = 0;
+
+    fill_background(background, sizeof background);
+    for (size_t i = 0; i < sizeof groups / sizeof groups[0]; i++) {
+        differences = 0;
+        if (groups[i].lends)
+            with_each_lending(groups[i].check);
+        else
+            groups[i].check(0);
+        printf("%s %s\n", differences == 0 ? "ok" : "FAILED", groups[i].name);
+        if (differences == 0)
+            passed++;
+        else
+            failed++;
+    }
+    printf("%d passed, %d failed\n", passed, failed);
+    return failed == 0 ? EXIT_SUCCESS : EXIT_FAILURE;
+}
