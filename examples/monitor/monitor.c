@@ -1,5 +1,6 @@
 /*
- * A small press monitor: it judges a routine once, when it is loaded, and runs it once a tick.
+ * A small press monitor: it judges a routine once, when it is loaded, keeps what a start needs in a slot, and starts
+ * and runs the routine once a tick.
  *
  *     monitor IMAGE TICKET BUDGET...
  *
@@ -23,6 +24,7 @@ struct file {
 };
 
 static struct file image, ticket;
+static uint8_t slot[JUGROND_SLOT_BYTES];     /* filled when the routine is accepted */
 static uint8_t memory[JUGROND_MEMORY_BYTES]; /* kept from tick to tick: the routine's data window with it */
 
 static bool load(struct file *f, const char *name)
@@ -49,18 +51,29 @@ static bool budget_of(const char *word, uint32_t *budget)
     return *word >= '0' && *word <= '9' && *end == '\0' && errno == 0 && n <= UINT32_MAX;
 }
 
-/* Judges the routine. Only an accepted one may be loaded. */
+/* A number in the slot, high byte first. */
+static uint32_t in_slot(size_t offset, size_t bytes)
+{
+    uint32_t n = 0;
+
+    for (size_t i = 0; i < bytes; i++)
+        n = n << 8 | slot[offset + i];
+    return n;
+}
+
+/* Judges the routine. Only an accepted one may be loaded; a refusal leaves the slot as it was. */
 static bool judge(void)
 {
-    uint32_t cost, place;
-    uint16_t entry, stack;
-    uint32_t outcome = jugrond_verdict(ticket.bytes, ticket.length, image.bytes, image.length, &entry, &cost, &stack, &place);
+    uint32_t place;
+    uint32_t outcome =
+        jugrond_certify(ticket.bytes, ticket.length, image.bytes, image.length, slot, sizeof slot, &place);
 
     if (outcome != JUGROND_ACCEPTED) {
         printf("refused: cause %" PRIu32 ", place %" PRIu32 "\n", outcome, place);
         return false;
     }
-    printf("accepted: entry $%04" PRIX16 ", at most %" PRIu32 " cycles and %" PRIu16 " stack bytes\n", entry, cost, stack);
+    printf("accepted: entry $%04" PRIX32 ", at most %" PRIu32 " cycles and %" PRIu32 " stack bytes\n",
+           in_slot(JUGROND_SLOT_ENTRY, 2), in_slot(JUGROND_SLOT_COST, 4), in_slot(JUGROND_SLOT_STACK_BYTES, 2));
     return true;
 }
 
@@ -69,19 +82,19 @@ struct end {
     uint32_t outcome, cycles, place;
 };
 
-/* Starts the routine afresh and runs it with the tick's budget. */
+/* Starts the routine afresh and runs it with the tick's budget. What a call does not answer stays 0 here. */
 static struct end tick(uint8_t reading, uint32_t budget)
 {
     uint8_t registers[JUGROND_REGISTER_BYTES];
     struct end e = {0, 0, 0};
-    uint16_t pc;
+    uint16_t pc = 0;
 
     e.outcome = jugrond_reset(registers, sizeof registers);
     if (e.outcome != JUGROND_DONE)
         return e;
     registers[JUGROND_A] = reading;
-    e.outcome = jugrond_start(ticket.bytes, ticket.length, image.bytes, image.length, registers, sizeof registers, memory,
-                              sizeof memory, &e.place);
+    e.outcome = jugrond_start_certified(slot, sizeof slot, image.bytes, image.length, registers, sizeof registers,
+                                        memory, sizeof memory, &e.place);
     if (e.outcome != JUGROND_ACCEPTED)
         return e;
     e.outcome = jugrond_run(registers, sizeof registers, memory, sizeof memory, budget, &e.cycles, &pc);
@@ -125,9 +138,10 @@ int main(int argc, char **argv)
             status = EXIT_FAILURE;
             break;
         case JUGROND_BAD_LENGTH:     /* a fault of this program */
-        case JUGROND_NO_INSTRUCTION: /* these two cannot be, after a start: the memory was altered since */
+        case JUGROND_BAD_IMAGE:      /* these cannot be: slot, image or memory was altered since it was judged */
+        case JUGROND_NO_INSTRUCTION:
         case JUGROND_WAITS:
-        default: /* 1 to 20, by the start: image or ticket was altered since it was judged */
+        default:
             printf("tick %d: refused: cause %" PRIu32 ", place %" PRIu32 "; stopped\n", i - 2, e.outcome, e.place);
             return EXIT_FAILURE; /* here the press is brought to a safe state */
         }

@@ -1,15 +1,19 @@
 /*
- * Runs the example routines ramp and shared on many inputs, each with the certified cycles as its budget, and compares what they leave with what their sources say that they
- * compute. The dearest way must take the cycles stored here. Prints the number of runs, or the first difference; the exit status tells.
+ * Judges the example routines ramp and shared once, and starts and runs them on many inputs, each with the certified
+ * cycles as its budget; compares what they leave with what their sources say that they compute. The dearest way must
+ * take the cycles stored here. Prints the number of runs, or the first difference; the exit status tells.
  */
 #include "jugrond.h"
+
+#include "routines.h"
 
 #include <inttypes.h>
 #include <stdio.h>
 #include <stdlib.h>
 #include <string.h>
 
-static uint8_t memory[JUGROND_MEMORY_BYTES], at_start[JUGROND_REGISTER_BYTES];
+static uint8_t memory[JUGROND_MEMORY_BYTES], image[4096], slot[JUGROND_SLOT_BYTES];
+static size_t image_length;
 static uint32_t certified, dearest;
 static int runs;
 
@@ -27,35 +31,40 @@ static size_t read_file(const char *name, uint8_t *bytes, size_t room)
     return length;
 }
 
-static void start(const char *image_name, const char *ticket_name)
+static void judge(const char *image_name, const char *ticket_name)
 {
-    static uint8_t image[4096], ticket[65536];
-    size_t image_length = read_file(image_name, image, sizeof image), ticket_length = read_file(ticket_name, ticket, sizeof ticket);
+    static uint8_t ticket[65536];
+    size_t ticket_length = read_file(ticket_name, ticket, sizeof ticket);
     uint32_t place;
-    uint16_t entry, stack;
 
+    image_length = read_file(image_name, image, sizeof image);
     dearest = 0;
-    if (jugrond_verdict(ticket, ticket_length, image, image_length, &entry, &certified, &stack, &place) != JUGROND_ACCEPTED ||
-        jugrond_reset(at_start, sizeof at_start) != JUGROND_DONE ||
-        jugrond_start(ticket, ticket_length, image, image_length, at_start, sizeof at_start, memory, sizeof memory, &place) != JUGROND_ACCEPTED) {
-        printf("DIFFERENCE %s is not started\n", image_name);
+    if (jugrond_certify(ticket, ticket_length, image, image_length, slot, sizeof slot, &place) != JUGROND_ACCEPTED) {
+        printf("DIFFERENCE %s is not accepted\n", image_name);
         exit(1);
     }
+    certified = slot_number(slot, JUGROND_SLOT_COST, 4);
 }
 
-/* Runs from the start. The image and home's bytes need not be stored again: no routine that was accepted writes there. */
+/* Starts and runs as a tick does. Memory stays from run to run. */
 static void check(const char *name, uint16_t output, int wanted)
 {
     uint8_t registers[JUGROND_REGISTER_BYTES];
-    uint32_t outcome, cycles;
+    uint32_t outcome, cycles = 0, refused_at;
     uint16_t place;
 
-    memcpy(registers, at_start, sizeof registers);
+    if (jugrond_reset(registers, sizeof registers) != JUGROND_DONE ||
+        jugrond_start_certified(slot, sizeof slot, image, image_length, registers, sizeof registers, memory,
+                                sizeof memory, &refused_at) != JUGROND_ACCEPTED) {
+        printf("DIFFERENCE %s, run %d: not started\n", name, runs);
+        exit(1);
+    }
     outcome = jugrond_run(registers, sizeof registers, memory, sizeof memory, certified, &cycles, &place);
     if (cycles > dearest)
         dearest = cycles;
     if (outcome != JUGROND_HOME || memory[output] != wanted) {
-        printf("DIFFERENCE %s, run %d: outcome %" PRIu32 ", output %d instead of %d\n", name, runs, outcome, memory[output], wanted);
+        printf("DIFFERENCE %s, run %d: outcome %" PRIu32 ", output %d instead of %d\n", name, runs, outcome,
+               memory[output], wanted);
         exit(1);
     }
     runs++;
@@ -91,7 +100,7 @@ static int scaled(int reading)
 
 int main(void)
 {
-    start("examples/ramp/ramp.bin", "examples/ramp/ramp.tkt");
+    judge("examples/ramp/ramp.bin", "examples/ramp/ramp.tkt");
     for (int measured = 0; measured < 256; measured += 15)
         for (int setpoint = 0; setpoint < 256; setpoint += 5)
             for (int drive = 0; drive <= 200; drive++) {
@@ -102,7 +111,7 @@ int main(void)
             }
     check_dearest("ramp", 35); /* 2 below the certified cycles: after CLRA the drive is never clamped, but the rules ignore flags */
 
-    start("examples/shared/shared.bin", "examples/shared/shared.tkt");
+    judge("examples/shared/shared.bin", "examples/shared/shared.tkt");
     for (int left = 0; left < 256; left++)
         for (int right = 0; right < 256; right++) {
             memory[0x50] = (uint8_t)left;
