@@ -2,6 +2,7 @@
 
 #include <inttypes.h>
 #include <stdio.h>
+#include <stdlib.h>
 
 int differences;
 
@@ -53,4 +54,24 @@ void with_each_lending(void (*test)(size_t guard))
         test(64);
         test(0);
     }
+}
+
+int check_groups(const struct group *groups, size_t count)
+{
+    int passed = 0, failed = 0;
+
+    for (const struct group *g = groups; g < groups + count; g++) {
+        differences = 0;
+        if (g->lends != NULL)
+            with_each_lending(g->lends);
+        else
+            g->once();
+        printf("%s %s\n", differences == 0 ? "ok" : "FAILED", g->name);
+        if (differences == 0)
+            passed++;
+        else
+            failed++;
+    }
+    printf("%d passed, %d failed\n", passed, failed);
+    return failed == 0 ? EXIT_SUCCESS : EXIT_FAILURE;
 }

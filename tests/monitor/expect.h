@@ -24,4 +24,14 @@ void fill_background(uint8_t *memory, size_t length);
 /* Calls a test with each filler, with guard bytes and without. */
 void with_each_lending(void (*test)(size_t guard));
 
+/* Checks that are counted as one. Those that lend are made in each way of lending, the others once. */
+struct group {
+    const char *name;
+    void (*lends)(size_t guard);
+    void (*once)(void);
+};
+
+/* Makes each group's checks, prints a line for each group and last their count; answers the exit status. */
+int check_groups(const struct group *groups, size_t count);
+
 #endif

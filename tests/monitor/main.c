@@ -10,8 +10,6 @@
 #include "lent.h"
 
 #include <stdbool.h>
-#include <stdio.h>
-#include <stdlib.h>
 #include <string.h>
 
 static void put_word(uint8_t *bytes, uint16_t word)
@@ -220,27 +218,12 @@ static void check_in_turn(size_t guard)
     take_back_all(&l);
 }
 
-static const struct {
-    const char *name;
-    void (*check)(size_t guard);
-} groups[] = {
-    {"reset", check_reset}, {"layout", check_layout},   {"steps", check_steps},
-    {"runs", check_runs},   {"lengths", check_lengths}, {"steps in turn", check_in_turn},
+static const struct group groups[] = {
+    {"reset", check_reset, NULL}, {"layout", check_layout, NULL},   {"steps", check_steps, NULL},
+    {"runs", check_runs, NULL},   {"lengths", check_lengths, NULL}, {"steps in turn", check_in_turn, NULL},
 };
 
 int main(void)
 {
-    int passed = 0, failed = 0;
-
-    for (size_t i = 0; i < sizeof groups / sizeof groups[0]; i++) {
-        differences = 0;
-        with_each_lending(groups[i].check);
-        printf("%s %s\n", differences == 0 ? "ok" : "FAILED", groups[i].name);
-        if (differences == 0)
-            passed++;
-        else
-            failed++;
-    }
-    printf("%d passed, %d failed\n", passed, failed);
-    return failed == 0 ? EXIT_SUCCESS : EXIT_FAILURE;
+    return check_groups(groups, sizeof groups / sizeof groups[0]);
 }
