@@ -52,9 +52,10 @@ extern "C" {
 
 /*
  * The host's stack, in bytes: a thread with the first figure can make any call, one with the second can reset, step,
- * run and start from a slot. With less the program dies. Measured by bench/stack of the library that this source makes
- * for x86-64: what the deepest call uses, and at least 16 KiB besides for the thread's own data, the frames above the
- * call and a signal's, in whole pages of 4 KiB. The tests make every call in threads of exactly these sizes.
+ * run and start from a slot. One with less may run over its stack, and the program then dies. Measured by bench/stack of
+ * the library that this source makes for x86-64: what the deepest call uses, and at least 16 KiB besides for the
+ * thread's own data, the frames above the call and a signal's, in whole pages of 4 KiB. The tests make every call in
+ * threads of exactly these sizes.
  */
 #define JUGROND_HOST_STACK_BYTES 544768
 #define JUGROND_HOST_STACK_TICK_BYTES 32768
