@@ -52,8 +52,8 @@ extern "C" {
 
 /*
  * The host's stack, in bytes: a thread with the first figure can make any call, one with the second can reset, step,
- * run and start from a slot. One with less may run over its stack, and the program then dies. Measured by bench/stack of
- * the library that this source makes for x86-64: what the deepest call uses, and at least 16 KiB besides for the
+ * run and start from a slot. One with less may run over its stack, and the program then dies. Measured by bench/stack
+ * of the library that this source makes for x86-64: what the deepest call uses, and at least 16 KiB besides for the
  * thread's own data, the frames above the call and a signal's, in whole pages of 4 KiB. The tests make every call in
  * threads of exactly these sizes.
  */
