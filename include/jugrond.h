@@ -57,7 +57,7 @@ extern "C" {
  * thread's own data, the frames above the call and a signal's, in whole pages of 4 KiB. The tests make every call in
  * threads of exactly these sizes.
  */
-#define JUGROND_HOST_STACK_BYTES 544768
+#define JUGROND_HOST_STACK_BYTES 561152
 #define JUGROND_HOST_STACK_TICK_BYTES 32768
 
 /* Outcomes. A refusal has its number in the specification; its place is written to *place. */
