@@ -3,8 +3,9 @@
 use mathlib.Core.Path.{_≡_, refl, sym, _∙_}
 use Prim.Native.Nat.{ℕ, _≤_}
 use native.Mathlib.Omega.{arith}
+use mathlib.Core.Bool.{true≢false}
 use mathlib.Core.List.{List, _++_, append-nil}
-use lib.ListN.{length, drop}
+use lib.ListN.{length}
 use lib.Seq.{append-snoc}
 use borrow.Author.Tests.{le-leb}
 use Rattle.commands.specs.declared.command.Command.{Command}
@@ -18,10 +19,11 @@ use Rattle.commands.proofs.Coding.{encode-decode, fits-decoded}
 use Rattle.commands.proofs.Digits.{bytes-drop}
 use Rattle.commands.proofs.Sound.{bounds}
 use Rattle.ticket.specs.declared.fields.Mark.{Mark}
-use Rattle.ticket.specs.Fields.{Fields, read, ticketOf, fieldsOf}
+use Rattle.ticket.specs.declared.answer.Reading.{Reading}
+use Rattle.ticket.specs.Fields.{Fields, Outcome, read, refused, ticketOf, fieldsOf, readingOf}
 use Rattle.ticket.specs.Read.{readOf}
 use Rattle.ticket.specs.Write.{commandsOf, encodeAll, bytesOf, checkOf, writeOf, outputOf}
-use Rattle.ticket.specs.RoundTrip.{AllFit, FitsFields}
+use Rattle.ticket.specs.RoundTrip.{AllFit, FitsFields, SameBytes}
 use Rattle.ticket.proofs.Listed.{fields-ticket}
 use Rattle.ticket.proofs.SoFar.{soFar, Consistent, consistent-start, consistent-next, said-next, length-ordered}
 use Rattle.ticket.proofs.Free.{Free, free-admitted}
@@ -69,7 +71,12 @@ written-read s f a r = rw (← same-commands s f r) (encoded (course s f r .1) a
 pub fits-read : (s : List ℕ) (f : Fields) → AllBytes s → readOf s ≡ read f → FitsFields f
 fits-read s f a r = rw (← same-commands s f r) (fit (course s f r .1) a)
 
-pub same-bytes : (s : List ℕ) (f : Fields) (out : List ℕ) → AllBytes s → readOf s ≡ read f → length s ≤ length out → outputOf (fieldsOf (ticketOf f)) out ≡ s ++ drop (length s) out
-unfolding outputOf writeOf
-same-bytes s f out a r room =
-    simp (fields-ticket f (few s f r), checks s f r .1, written-read s f a r, le-leb _ _ room)
+module _ (s : List ℕ) (a : AllBytes s) where
+  same-read : (o : Outcome) → readOf s ≡ o → SameBytes s (readingOf o)
+  unfolding outputOf writeOf
+  same-read (read f) e q out room =
+      simp (fields-ticket f (few s f e), checks s f e .1, written-read s f a e, le-leb _ _ room) (refl, refl)
+  same-read (refused x) e q out room = absurd (true≢false cc)
+
+  pub same-bytes : (r : Reading) → r ≡ readingOf (readOf s) → SameBytes s r
+  same-bytes r e = rw e (same-read (readOf s) refl)

@@ -1,13 +1,19 @@
 -- What the laws between reading and writing say (document 01: a ticket read and written again has the same bytes).
 -- Assumes nothing.
-use mathlib.Core.List.{List}
+use Prim.Native.Nat.{ℕ, _≤_}
+use mathlib.Core.Path.{_≡_}
+use mathlib.Core.List.{List, _++_}
+use lib.ListN.{length, drop}
 use Rattle.commands.specs.declared.command.Command.{Command}
 use Rattle.commands.specs.declared.admit.Admitted.{Admitted}
 use Rattle.commands.specs.declared.admit.Admitted.the-variants.{Refused, Next}
 use Rattle.commands.specs.Every.{Every}
 use Rattle.commands.specs.Fits.{Fits}
-use Rattle.ticket.specs.Fields.{Fields, Outcome, read, refused}
-use Rattle.ticket.specs.Write.{commandsOf}
+use Rattle.ticket.specs.declared.answer.Answer.the-variants.{Read}
+use Rattle.ticket.specs.declared.answer.Reading.{Reading}
+use Rattle.ticket.specs.declared.answer.Written.the-variants.{Length}
+use Rattle.ticket.specs.Fields.{Fields, Outcome, read, refused, fieldsOf}
+use Rattle.ticket.specs.Write.{commandsOf, writeOf, outputOf}
 
 -- every operand fits its width, as in every value of the code's types
 abbrev pub AllFit : List Command → Type 0
@@ -20,3 +26,12 @@ FitsFields f = AllFit (commandsOf f)
 abbrev pub answered : Admitted → Fields → Outcome
 answered (Refused r) f = refused r
 answered (Next p) f = read f
+
+-- A ticket that was read from some bytes and is written again has the same bytes: in every output with room for them they stand at its beginning, what was
+-- there stands after them, and the answer is their length.
+abbrev pub SameBytes : List ℕ → Reading → Type 0
+SameBytes s r =
+    r .answer ≡ Read
+    → (out : List ℕ)
+    → length s ≤ length out
+    → let f = fieldsOf (r .ticket) in (writeOf f (length out) ≡ Length (length s)) × (outputOf f out ≡ s ++ drop (length s) out)

@@ -6,7 +6,7 @@ ghost use Rattle.ticket.specs.Read.{readOf};
 ghost use Rattle.ticket.specs.Write.{bytesOf, checkOf, writeOf, outputOf};
 ghost use Rattle.ticket.specs.Rules.{ReadByTheRules};
 ghost use Rattle.ticket.specs.Fields.{fieldsOf, readingOf};
-ghost use Rattle.ticket.specs.RoundTrip.{answered};
+ghost use Rattle.ticket.specs.RoundTrip.{answered, SameBytes};
 use crate::answer::Answer;
 use crate::answer::Reading;
 use crate::answer::Written;
@@ -28,9 +28,9 @@ pub mod fields; // the ticket and its marks
 mod reader; // a command at a time
 mod writer; // checks first, then the bytes
 
-// The ticket that some bytes are, or the first failure in file order.
+// The ticket that some bytes are, or the first failure in file order. What is read and written again has the same bytes.
 pub fn read(bytes: &[u8]) -> Reading
-    ensures { λ r. ⌜ (r ≡ readingOf (readOf (now (bytes .entry)))) × ReadByTheRules (now (bytes .entry)) ⌝ }
+    ensures { λ r. ⌜ (r ≡ readingOf (readOf (now (bytes .entry)))) × ReadByTheRules (now (bytes .entry)) × SameBytes (now (bytes .entry)) r ⌝ }
 {
     let mut marks = [blank(); 4096];
     let mut p = start();

@@ -3,12 +3,16 @@
 use borrow.Author.Needs.{needs}
 use Prim.Native.Nat.{_-_}
 use native.Mathlib.Omega.{arith}
-use mathlib.Core.Path.{sym, ap, _∙_}
+use mathlib.Core.Path.{_≡_, sym, ap, _∙_}
 use lib.ListN.{length}
 use Rattle.commands.proofs.Digits.{all-bytes}
+use Rattle.ticket.specs.declared.answer.Reading.{Reading}
 use Rattle.ticket.specs.Fields.{readingOf}
+use Rattle.ticket.specs.Read.{readOf}
 use Rattle.ticket.specs.Rules.{ReadByTheRules}
+use Rattle.ticket.specs.RoundTrip.{SameBytes}
 use Rattle.ticket.proofs.Accepts.{by-the-rules}
+use Rattle.ticket.proofs.WrittenRead.{same-bytes}
 use Rattle.ticket.proofs.ReadLoop.{Reached, reached-start, reached-next, next-bounds, reading-refused, reading-long, reading-done}
 use Rattle.ticket.proofs.read.Statement.{statement}
 use Rattle.ticket.proofs.read.Tie as tie
@@ -19,9 +23,10 @@ Inv-loop bytes marks₀ p₀ marks p = Reached bytes marks p
 abbrev μ-loop : tie.MeasureT-loop
 μ-loop bytes marks₀ p₀ marks p = length bytes - p .at
 
--- the input is a list of bytes
-rules : (c : tie.After-shared-slice-known Inv-loop μ-loop) → ReadByTheRules (c .before .args .bytes .now)
-rules c = by-the-rules _ (all-bytes _ (λ i. c .shared-slice-known .given i .fits))
+-- the input is a list of bytes, so both laws hold of it
+promised : (c : tie.After-shared-slice-known Inv-loop μ-loop) (r : Reading) → let s = c .before .args .bytes .now in r ≡ readingOf (readOf s)
+    → (r ≡ readingOf (readOf s)) × ReadByTheRules s × SameBytes s r
+promised c r e = let b = all-bytes _ (λ i. c .shared-slice-known .given i .fits) in (e, by-the-rules _ b, same-bytes _ b r e)
 
 next-command-requires : tie.Need-next-command-requires Inv-loop μ-loop
 next-command-requires c κs = let h = c .before .before .loop .inv in (h .kept .sound, h .inside)
@@ -30,10 +35,9 @@ returns : tie.Need-returns Inv-loop μ-loop
 returns c =
     let n = c .before .before .before .before in
     let e = sym (n .next-command .ensures) ∙ c .before .before .r .given .1 in
-    let l = n .before .before .before in (
-      c .refused .ensures ∙ ap readingOf (sym (reading-refused _ _ _ (l .loop .inv) (n .before .if1 .taken) _ e)),
-      rules (l .before .before .before),
-    )
+    let l = n .before .before .before in
+    promised (l .before .before .before) _
+    (c .refused .ensures ∙ ap readingOf (sym (reading-refused _ _ _ (l .loop .inv) (n .before .if1 .taken) _ e)))
 
 array-copy-out-m : tie.Need-array-copy-out-m Inv-loop μ-loop
 array-copy-out-m c =
@@ -62,15 +66,16 @@ loop-again c =
 
 returns-2 : tie.Need-returns-2 Inv-loop μ-loop
 returns-2 c =
-    let l = c .before .before .before .before .before .before in (
-      c .refused2 .ensures ∙ rw (c .before .refuse .ensures) (ap readingOf (sym (reading-long _ _ _ (l .loop .inv) (c .before .before .before .before .if1 .left) (c .before .before .if2 .taken)))),
-      rules (l .before .before .before),
-    )
+    let l = c .before .before .before .before .before .before in
+    let long = reading-long _ _ _ (l .loop .inv) (c .before .before .before .before .if1 .left) (c .before .before .if2 .taken) in
+    promised (l .before .before .before) _
+    (c .refused2 .ensures ∙ rw (c .before .refuse .ensures) (ap readingOf (sym long)))
 
 returns-3 : tie.Need-returns-3 Inv-loop μ-loop
 returns-3 c =
     let l = c .before .before .before .before .before in
-    (reading-done _ _ _ (l .loop .inv) (c .before .before .before .if1 .left) (c .before .if2 .left), rules (l .before .before .before))
+    promised (l .before .before .before) _
+    (reading-done _ _ _ (l .loop .inv) (c .before .before .before .if1 .left) (c .before .if2 .left))
 
 pub read-spec : {M : Type 1} → statement M
 read-spec =
