@@ -1,2 +1,3 @@
 mod Found
 mod Left
+pub mod Apart

@@ -7,3 +7,4 @@ pub mod Loop
 pub mod Once
 pub mod Sum
 pub mod Enough
+pub mod Apart

@@ -1,6 +1,6 @@
--- The code's ticket of some fields holds these fields.
+-- The code's ticket of some fields holds these fields, and nothing of an outcome of reading is lost in the code's answer.
 -- Assumes nothing.
-use mathlib.Core.Path.{_≡_, refl}
+use mathlib.Core.Path.{_≡_, refl, sym, ap, _∙_}
 use Prim.Native.Nat.{ℕ, zero, suc, _-_, _≤_}
 use native.Mathlib.Omega.{arith}
 use mathlib.Core.List.{List, _++_}
@@ -8,7 +8,11 @@ use lib.ListN.{length, take, replicate, length-append}
 use lib.Seq.{take-suc, take-append-seam}
 use borrow.Author.Tests.{lt-ltb}
 use Rattle.ticket.specs.declared.fields.Mark.{Mark}
-use Rattle.ticket.specs.Fields.{Fields, blankMark, listed, ticketOf, fieldsOf}
+use Rattle.ticket.specs.declared.fields.Ticket.{Ticket}
+use Rattle.ticket.specs.declared.answer.Answer.{Answer}
+use Rattle.ticket.specs.declared.answer.Answer.the-variants as Answer
+use Rattle.ticket.specs.declared.answer.Reading.{Reading}
+use Rattle.ticket.specs.Fields.{Fields, Outcome, read, refused, blankMark, listed, ticketOf, fieldsOf, readingOf}
 
 pub listed-take : (ms : List Mark) (n : ℕ) → n ≤ 4096 → n ≤ length ms → listed ms n ≡ take n ms
 listed-take ms zero few room = refl
@@ -21,3 +25,21 @@ fields-ticket f few =
     let blank = replicate (4096 - length (f .marks)) blankMark in
     let room : length (f .marks) ≤ length (f .marks ++ blank) = simp length-append (omega arith) in
     rw (listed-take (f .marks ++ blank) (length (f .marks)) few room, take-append-seam (f .marks) blank)
+
+-- Two different outcomes of reading have different answers of the code: from the code's reading the outcome is found again.
+abbrev fieldsFrom : Ticket → Fields
+fieldsFrom t = record { header = t .header; marks = take (t .count) (t .marks) }
+
+abbrev outcomeFrom : Answer → Ticket → Outcome
+outcomeFrom Answer.Read t = read (fieldsFrom t)
+outcomeFrom (Answer.Refused r) t = refused r
+
+outcome-back : (o : Outcome) → let r = readingOf o in outcomeFrom (r .answer) (r .ticket) ≡ o
+unfolding ticketOf
+outcome-back (read f) =
+    rw (take-append-seam (f .marks) (replicate (4096 - length (f .marks)) blankMark))
+outcome-back (refused r) = refl
+
+pub readings-apart : (a b : Outcome) → readingOf a ≡ readingOf b → a ≡ b
+readings-apart a b e =
+    sym (outcome-back a) ∙ ap (λ (r : Reading). outcomeFrom (r .answer) (r .ticket)) e ∙ outcome-back b
