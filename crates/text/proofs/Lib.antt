@@ -1,4 +1,5 @@
 pub mod Digits
+pub mod Spelled
 mod Backward
 mod Letters
 mod Patterns
