@@ -28,8 +28,9 @@ class Declaration:
 
 class File:
     def __init__(self, path):
-        self.declarations, self.constructors, self.imports, self.modules = {}, {}, {}, {}
         self.path = path
+        self.declarations, self.constructors = {}, {}
+        self.imports, self.aliases = {}, {}  # names of other modules, and modules by another name
         text = COMMENT.sub(lambda m: m.group() if m.group().startswith('"') else '', path.read_text())
         self.read(text.split('\n'), [])
 
@@ -40,8 +41,8 @@ class File:
             head = text.strip()
             if use := USE.match(head):
                 self.imports.update(imported(use))
-            elif head.startswith(('mod ', 'pub mod ')):
-                self.modules[head.split()[-1]] = head.startswith('pub ')
+                if use[3]:
+                    self.aliases[use[3]] = use[1]
             elif head.startswith(('module ', 'mutual')):
                 body = 1 + next(i for i, line in enumerate(item) if line.rstrip().endswith(('where', 'mutual')))
                 self.read(item[body:], around + ['\n'.join(item[:body])])
@@ -82,14 +83,12 @@ def words(text):
 
 
 def imported(use):
-    """What a `use` line brings in: each name, and the parts of an operator, as (path, name); a module as (path, None)."""
-    path, names, alias = use.groups()
-    if names is None:
-        yield alias or path.split('.')[-1], (path, None)
-        return
-    for entry in names.split(','):
+    """The names that a `use` line brings in, and the parts of its operators, each with its module and its name there."""
+    path, names, _ = use.groups()
+    for entry in (names or '').split(','):
         name, _, other = (part.strip() for part in entry.partition(' as '))
-        for part in [other or name] + [p for p in (other or name).split('_') if p and '_' in (other or name)]:
+        other = other or name
+        for part in {other, *other.split('_')} - {''}:
             yield part, (path, name)
 
 
@@ -119,16 +118,14 @@ class Project:
         """What an atom of a file's text names: a declaration, or where a library's name or a generated one comes from.
         None where it is bound in the text itself."""
         head, *rest = atom.split('.')
-        if head in file.declarations or head in file.constructors:
-            return file.declarations.get(head) or file.constructors[head]
-        if head not in file.imports:
-            return None
-        path, name = file.imports[head]
-        name = name or (rest[0] if rest else '')
+        if rest and head in file.aliases:
+            path, name = file.aliases[head], rest[0]
+        elif head in file.imports:
+            path, name = file.imports[head]
+        else:
+            return file.declarations.get(head) or file.constructors.get(head)
         other = self.module(path)
-        if other:
-            return other.declarations.get(name) or other.constructors.get(name) or f'{path}.{name}'
-        return f'{path}.{name}'
+        return other and (other.declarations.get(name) or other.constructors.get(name)) or f'{path}.{name}'
 
     def named(self, path, texts):
         """The declarations and the origins that some texts of a file name, in their order."""
