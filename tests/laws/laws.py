@@ -166,7 +166,7 @@ def main(arguments):
     if arguments[:1] == ['--show'] or arguments[:1] == ['--words']:
         project = Project(ROOT)
         if arguments[0] == '--show':
-            print('# A law, its file, and the hash of its statement. Renewed by tests/laws/run --show, which says what to read first.')
+            print('# A law, its file, and the hash of its statement; laws.py says how a line is renewed.')
         for law, file in table((ROOT / PAGE).read_text()):
             declaration, wrong = look_up(ROOT, project, law, file)
             if wrong:

@@ -83,7 +83,7 @@ def words(text):
 
 
 def imported(use):
-    """The names that a `use` line brings in, and the parts of its operators, each with its module and its name there."""
+    """The names that a `use` line brings in, and the parts of its operators, each with its module and name there."""
     path, names, _ = use.groups()
     for entry in (names or '').split(','):
         name, _, other = (part.strip() for part in entry.partition(' as '))
