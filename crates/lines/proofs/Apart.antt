@@ -19,7 +19,9 @@ Narrow (Accept e c s) = (c .0 < 4294967296) × (s .0 < 4294967296)
 Narrow (Refuse r) = (r .number < 4294967296) × (r .place < 4294967296)
 
 abbrev acceptFrom : List ℕ → Verdict
-acceptFrom t = let d = drop 1 (drop 4 t) in Accept (hexFrom t) (record { 0 = numberFrom 0 d }) (record { 0 = numberFrom 0 (afterNumber d) })
+acceptFrom t =
+    let d = drop 1 (drop 4 t) in
+    Accept (hexFrom t) (record { 0 = numberFrom 0 d }) (record { 0 = numberFrom 0 (afterNumber d) })
 
 abbrev refuseFrom : List ℕ → Verdict
 refuseFrom t = Refuse (record { number = numberFrom 0 t; place = numberFrom 0 (afterNumber t) })

@@ -33,8 +33,8 @@ written-back (Byte a) = refl
 written-back (Word a) = refl
 
 abbrev shapeFrom : Rules.Shape → Shape
-shapeFrom (Rules.ordinary next pushed pulled written cycles) =
-    Ordinary (nextFrom next) (record { 0 = pushed }) (record { 0 = pulled }) (writtenFrom written) (record { 0 = cycles })
+shapeFrom (Rules.ordinary next up down written k) =
+    Ordinary (nextFrom next) (record { 0 = up }) (record { 0 = down }) (writtenFrom written) (record { 0 = k })
 shapeFrom (Rules.call target after cycles) = Call target after (record { 0 = cycles })
 shapeFrom (Rules.return cycles) = Return (record { 0 = cycles })
 shapeFrom Rules.forbidden = Forbidden

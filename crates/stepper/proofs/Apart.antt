@@ -1,4 +1,4 @@
--- Two different answers have different readings: from what `answerOf` and `ranOf` say of an answer the answer is found again.
+-- Two different answers have different readings: from what `answerOf` and `ranOf` say the answer is found again.
 -- Assumes nothing.
 use Prim.Native.Nat.{ℕ}
 use mathlib.Core.Path.{_≡_, refl, sym, ap, _∙_}
@@ -10,7 +10,8 @@ use Rattle.stepper.specs.declared.answer.Stepped.{Stepped}
 use Rattle.stepper.specs.declared.answer.Stepped.the-variants as Stepped
 use Rattle.stepper.specs.declared.answer.Ran.{Ran}
 use Rattle.stepper.specs.declared.answer.Ran.the-variants as Ran
-use Rattle.stepper.specs.Answer.{Answer, done, refused, RunAnswer, home, spent, numberOf, placeOf, answerOf, ranOf}
+use Rattle.stepper.specs.Answer.{Answer, done, refused, RunAnswer, home, spent}
+use Rattle.stepper.specs.Answer.{numberOf, placeOf, answerOf, ranOf}
 
 abbrev pub refusalFrom : (number place : ℕ) → Refusal
 refusalFrom n p = cond (eqb n 21) BadMemory (cond (eqb n 22) (NoInstruction p) (Waits p))

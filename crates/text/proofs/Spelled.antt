@@ -24,7 +24,9 @@ digit-back d = by (ltb d 10) (ltb-true d 10) (ltb-false d 10)
     by false small large = rw (le-ltb (55 + d) 58 (omega (arith, large refl))) (omega arith)
 
 abbrev pub hexFrom : List ℕ → ℕ
-hexFrom s = digitFrom (getD s 0 0) * 4096 + digitFrom (getD s 1 0) * 256 + digitFrom (getD s 2 0) * 16 + digitFrom (getD s 3 0)
+hexFrom s =
+    let digit = λ (i : ℕ). digitFrom (getD s i 0) in
+    digit 0 * 4096 + digit 1 * 256 + digit 2 * 16 + digit 3
 
 pub hex-back : (n : ℕ) (s : List ℕ) → hexFrom (hexOf n ++ s) ≡ n
 unfolding hexOf
@@ -53,12 +55,14 @@ number-digit v d n l e = rw (le-ltb (48 + d) 48 (omega arith)) (ap (λ (x : ℕ)
 number-before : (k n : ℕ) (l : List ℕ) → n < 10 ^ k → numberFrom 0 (decimalBefore k n l) ≡ numberFrom n l
 number-before zero n l h = ap (λ (x : ℕ). numberFrom x l) (omega arith)
 number-before (suc k) n l h =
-    by (ltb n 10) (number-before k (n / 10) ((48 + n % 10) ∷ l) (div-lt-iff-lt-mul {k = 10} (omega arith) .1 (rw pow-suc at h)))
+    let fewer : n / 10 < 10 ^ k = div-lt-iff-lt-mul {k = 10} (omega arith) .1 (rw pow-suc at h) in
+    by (ltb n 10) (number-before k (n / 10) ((48 + n % 10) ∷ l) fewer)
   where
     rest : List ℕ
     rest = decimalBefore k (n / 10) ((48 + n % 10) ∷ l)
 
-    by : (b : Bool) → numberFrom 0 rest ≡ numberFrom (n / 10) ((48 + n % 10) ∷ l) → numberFrom 0 (cond b ((48 + n) ∷ l) rest) ≡ numberFrom n l
+    by : (b : Bool) → numberFrom 0 rest ≡ numberFrom (n / 10) ((48 + n % 10) ∷ l)
+        → numberFrom 0 (cond b ((48 + n) ∷ l) rest) ≡ numberFrom n l
     by true e = number-digit 0 n n l (omega arith)
     by false e = e ∙ number-digit (n / 10) (n % 10) n l (omega arith)
 
@@ -69,7 +73,8 @@ after-before (suc k) n l = by (ltb n 10) (after-before k (n / 10) ((48 + n % 10)
     rest : List ℕ
     rest = decimalBefore k (n / 10) ((48 + n % 10) ∷ l)
 
-    by : (b : Bool) → afterNumber rest ≡ afterNumber ((48 + n % 10) ∷ l) → afterNumber (cond b ((48 + n) ∷ l) rest) ≡ afterNumber l
+    by : (b : Bool) → afterNumber rest ≡ afterNumber ((48 + n % 10) ∷ l)
+        → afterNumber (cond b ((48 + n) ∷ l) rest) ≡ afterNumber l
     by true e = rw (le-ltb (48 + n) 48 (omega arith))
     by false e = e ∙ rw (le-ltb (48 + n % 10) 48 (omega arith))
 
@@ -80,7 +85,8 @@ before-append (suc k) n l s = by (ltb n 10) (before-append k (n / 10) ((48 + n %
     rest : List ℕ → List ℕ
     rest t = decimalBefore k (n / 10) ((48 + n % 10) ∷ t)
 
-    by : (b : Bool) → rest l ++ s ≡ rest (l ++ s) → cond b ((48 + n) ∷ l) (rest l) ++ s ≡ cond b ((48 + n) ∷ (l ++ s)) (rest (l ++ s))
+    by : (b : Bool) → rest l ++ s ≡ rest (l ++ s)
+        → cond b ((48 + n) ∷ l) (rest l) ++ s ≡ cond b ((48 + n) ∷ (l ++ s)) (rest (l ++ s))
     by true e = refl
     by false e = e
 

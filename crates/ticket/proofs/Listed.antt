@@ -1,4 +1,4 @@
--- The code's ticket of some fields holds these fields, and nothing of an outcome of reading is lost in the code's answer.
+-- The code's ticket of some fields holds these fields; the code's answer loses nothing of what reading comes to.
 -- Assumes nothing.
 use mathlib.Core.Path.{_≡_, refl, sym, ap, _∙_}
 use Prim.Native.Nat.{ℕ, zero, suc, _-_, _≤_}
@@ -26,7 +26,7 @@ fields-ticket f few =
     let room : length (f .marks) ≤ length (f .marks ++ blank) = simp length-append (omega arith) in
     rw (listed-take (f .marks ++ blank) (length (f .marks)) few room, take-append-seam (f .marks) blank)
 
--- Two different outcomes of reading have different answers of the code: from the code's reading the outcome is found again.
+-- two different outcomes of reading are different answers of the code: from the answer the outcome is found again
 abbrev fieldsFrom : Ticket → Fields
 fieldsFrom t = record { header = t .header; marks = take (t .count) (t .marks) }
 

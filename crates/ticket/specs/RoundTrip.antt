@@ -27,11 +27,12 @@ abbrev pub answered : Admitted → Fields → Outcome
 answered (Refused r) f = refused r
 answered (Next p) f = read f
 
--- A ticket that was read from some bytes and is written again has the same bytes: in every output with room for them they stand at its beginning, what was
--- there stands after them, and the answer is their length.
+-- A ticket that was read from some bytes and is written again has the same bytes: in every output with room they stand
+-- at its beginning, what was there stands after them, and the answer is their length.
 abbrev pub SameBytes : List ℕ → Reading → Type 0
 SameBytes s r =
     r .answer ≡ Read
     → (out : List ℕ)
     → length s ≤ length out
-    → let f = fieldsOf (r .ticket) in (writeOf f (length out) ≡ Length (length s)) × (outputOf f out ≡ s ++ drop (length s) out)
+    → let f = fieldsOf (r .ticket) in
+    (writeOf f (length out) ≡ Length (length s)) × (outputOf f out ≡ s ++ drop (length s) out)

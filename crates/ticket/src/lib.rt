@@ -28,9 +28,11 @@ pub mod fields; // the ticket and its marks
 mod reader; // a command at a time
 mod writer; // checks first, then the bytes
 
-// The ticket that some bytes are, or the first failure in file order. What is read and written again has the same bytes.
+// The ticket that some bytes are, or the first failure in file order. Written again, it has the same bytes.
 pub fn read(bytes: &[u8]) -> Reading
-    ensures { λ r. ⌜ (r ≡ readingOf (readOf (now (bytes .entry)))) × ReadByTheRules (now (bytes .entry)) × SameBytes (now (bytes .entry)) r ⌝ }
+    ensures { λ r. ⌜ (r ≡ readingOf (readOf (now (bytes .entry))))
+        × ReadByTheRules (now (bytes .entry))
+        × SameBytes (now (bytes .entry)) r ⌝ }
 {
     let mut marks = [blank(); 4096];
     let mut p = start();

@@ -24,9 +24,11 @@ abbrev μ-loop : tie.MeasureT-loop
 μ-loop bytes marks₀ p₀ marks p = length bytes - p .at
 
 -- the input is a list of bytes, so both laws hold of it
-promised : (c : tie.After-shared-slice-known Inv-loop μ-loop) (r : Reading) → let s = c .before .args .bytes .now in r ≡ readingOf (readOf s)
-    → (r ≡ readingOf (readOf s)) × ReadByTheRules s × SameBytes s r
-promised c r e = let b = all-bytes _ (λ i. c .shared-slice-known .given i .fits) in (e, by-the-rules _ b, same-bytes _ b r e)
+promised : (c : tie.After-shared-slice-known Inv-loop μ-loop) (r : Reading) → let s = c .before .args .bytes .now in
+    r ≡ readingOf (readOf s) → (r ≡ readingOf (readOf s)) × ReadByTheRules s × SameBytes s r
+promised c r e =
+    let bytes = all-bytes _ (λ i. c .shared-slice-known .given i .fits) in
+    (e, by-the-rules _ bytes, same-bytes _ bytes r e)
 
 next-command-requires : tie.Need-next-command-requires Inv-loop μ-loop
 next-command-requires c κs = let h = c .before .before .loop .inv in (h .kept .sound, h .inside)
@@ -67,7 +69,8 @@ loop-again c =
 returns-2 : tie.Need-returns-2 Inv-loop μ-loop
 returns-2 c =
     let l = c .before .before .before .before .before .before in
-    let long = reading-long _ _ _ (l .loop .inv) (c .before .before .before .before .if1 .left) (c .before .before .if2 .taken) in
+    let t = c .before .before in
+    let long = reading-long _ _ _ (l .loop .inv) (t .before .before .if1 .left) (t .if2 .taken) in
     promised (l .before .before .before) _
     (c .refused2 .ensures ∙ rw (c .before .refuse .ensures) (ap readingOf (sym long)))
 
