@@ -25,7 +25,7 @@ from words import Project, short_hash
 ROOT = Path(__file__).resolve().parents[2]
 PAGE, STATEMENTS = 'docs/ASSURANCE.md', 'tests/laws/statements.txt'
 HEADING = '### Laws about the definitions'
-ALONE = 'Held by `tests/laws` alone:'
+ALONE = 'Held by `tests/laws` alone'
 QUOTED = re.compile(r'`([^`]+)`')
 NAMED = re.compile(r'\b[Ll]aws?\s((?:`[^`]+`(?:,?\sand\s|,\s)?)+)')
 
@@ -100,7 +100,7 @@ def wrongs(root):
     names = {law for law, _ in laws}
     for law in sorted({law for found in NAMED.findall(text) for law in QUOTED.findall(found)}):
         results.append((f'{law}, in the text', None if law in names else 'in no table'))
-    said = {law for found in re.findall(rf'^{ALONE}(.*?)\n\n', text, re.M | re.S) for law in QUOTED.findall(found)}
+    said = {law for found in re.findall(rf'^{ALONE}:(.*?)\n\n', text, re.M | re.S) for law in QUOTED.findall(found)}
     differ = f'the text says {sorted(said - alone)} besides, and not {sorted(alone - said)}'
     results.append((ALONE, None if said == alone else differ))
     return results
