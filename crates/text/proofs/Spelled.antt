@@ -25,7 +25,7 @@ digit-back d = by (ltb d 10) (ltb-true d 10) (ltb-false d 10)
 
 abbrev pub hexFrom : List ℕ → ℕ
 hexFrom s =
-    let digit = λ (i : ℕ). digitFrom (getD s i 0) in
+    let digit : ℕ → ℕ = λ i. digitFrom (getD s i 0) in
     digit 0 * 4096 + digit 1 * 256 + digit 2 * 16 + digit 3
 
 pub hex-back : (n : ℕ) (s : List ℕ) → hexFrom (hexOf n ++ s) ≡ n
