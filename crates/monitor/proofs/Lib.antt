@@ -1,3 +1,4 @@
 pub mod SlotBytes
 pub mod BytesHome
 pub mod SlotHome
+pub mod Apart
