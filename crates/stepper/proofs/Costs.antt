@@ -15,6 +15,8 @@ use Rattle.opcodes.proofs.Says.{none-there}
 use Rattle.opcodes.specs.Tables.{lengthAt, cyclesAt}
 use Rattle.opcodes.specs.Decode.{Bytes, placeIn, decodeAt}
 use Rattle.opcodes.specs.Form.{formOf, waits}
+use Rattle.opcodes.specs.declared.instruction.Action.{Action}
+use Rattle.opcodes.specs.declared.instruction.Operand.{Operand}
 use Rattle.opcodes.specs.declared.instruction.Decoded.{Decoded}
 use Rattle.opcodes.specs.declared.instruction.Decoded.the-variants.{Instruction, Nothing}
 use Rattle.registers.specs.Word.{plus}
@@ -28,14 +30,19 @@ module _ (r : Registers) (m : List ℕ) (q : Registers) (k : Cycles) where
   by-wait true e c s = let z : _≡_ {A = ℕ} 0 1 = cc in absurd (omega (arith, z))
   by-wait false e c s = ap (λ (x : Cycles). x .0) (cc)
 
+  -- an instruction that is done takes the cycles of its place, whatever it does
+  own-cycles : (p : ℕ) (a : Action) (o : Operand) → after (carriedOut p (Instruction a o) r m) m .answer ≡ done q k → cyclesAt p ≡ k .0
+  unfolding carriedOut
+  own-cycles p a o s =
+      let next = withPc r (plus (r .pc) (lengthAt p)) in
+      by-wait (waits (formOf a o (next .pc))) (effectOf a o next m) (cyclesAt p) s
+
   carried : (p : ℕ) (f : Bytes) (d : Decoded) → decodeAt p f ≡ d → after (carriedOut p d r m) m .answer ≡ done q k → 2 ≤ k .0
   unfolding carriedOut
   carried p f Nothing e s = let z : _≡_ {A = ℕ} 0 1 = cc in absurd (omega (arith, z))
   carried p f (Instruction a o) e s =
-      let next = withPc r (plus (r .pc) (lengthAt p)) in
-      let same = by-wait (waits (formOf a o (next .pc))) (effectOf a o next m) (cyclesAt p) s in
       ⊎-elim (λ w. let n = none-there p f w in let z : _≡_ {A = ℕ} 0 1 = cc in absurd (omega (arith, z)))
-      (λ w. subst (λ (x : ℕ). 2 ≤ x) same (w .2)) (ruled-at-all p)
+      (λ w. subst (λ (x : ℕ). 2 ≤ x) (own-cycles p a o s) (w .2)) (ruled-at-all p)
 
   by-length : (b : Bool) → after (didIf b r m) m .answer ≡ done q k → 2 ≤ k .0
   by-length true s = let f = fetched m (r .pc) in carried (placeIn f) f (decodeAt (placeIn f) f) refl s
