@@ -24,9 +24,9 @@ MISFITS = re.compile(
 # What it says of a fact that is not proved: `simp`, `cc`, `rw`, `omega`, `search`, a term of another type, a proof that
 # it makes itself. Whatever is said in no such words counts as a misfit.
 FACTS = re.compile(
-    r'must be a path whose two ends are equal|before the equations had joined|no occurrence of the path'
-    r'|does not follow from what it read'
-    r'|`search`: no proof of|the two (types|indices)|but this has type|it is not proved that')
+    r'must be a path whose two ends are equal|no equation of the list has an instance|before the equations had joined'
+    r'|no occurrence of the path|does not follow from what it read|`search`: no proof of|the two (types|indices)'
+    r'|but this has type|it is not proved that')
 ERROR = re.compile(r'(?:\S*/)?((?:proofs|specs)/\S*?\.antt)(?::(\d+):(\d+))?: error: (?:`([^`]*)`: )?')
 UNPROVED = re.compile(r'note: \S+: it is not proved that .*\(`([^`]*)`\)$')
 
