@@ -108,7 +108,8 @@ def class_of(error, folder):
     if error.need:
         return class_of_need(error.need)
     if not error.file.endswith('/Proof.antt'):
-        return PROMISE  # a law
+        # A law. A term of quite another type says that its proof does not fit, and not what is wrong.
+        return MISFIT if 'two types' in error.text and 'differ only where' not in error.text else PROMISE
     proof = Proof((folder / error.file).read_text())
     if 'tie.spec' not in proof.text:
         return PROMISE  # a walk of the code by hand, which has no needs
