@@ -89,14 +89,13 @@ class Proof:
         return found
 
     def argument_at(self, line, column):
-        """The argument of `tie.spec` that a place lies in, from its begin to the end of that line."""
+        """The argument of `tie.spec` that a place lies in, from its begin to the place; or nothing."""
         before = '\n'.join(self.lines[:line - 1] + [self.lines[line - 1][:column]])
-        depth, begin = 0, len(before)
-        for at in range(before.rindex('tie.spec'), len(before)):
-            if depth == 0 and before[at] == '(':
-                begin = at
-            depth += (before[at] == '(') - (before[at] == ')')
-        return before[begin:]
+        depth, argument = 0, ''
+        for sign in before.partition('tie.spec')[2]:
+            argument = sign if depth == 0 and sign == '(' else argument + sign
+            depth += (sign == '(') - (sign == ')')
+        return argument
 
 
 def class_of(error, folder):
@@ -117,7 +116,10 @@ def class_of(error, folder):
         return class_of_need(proof.needs[error.declaration])
     if error.declaration.endswith('-spec'):
         # The need has no name here. The proof of a `requires` takes two arguments, and a bound is no equation.
-        if re.match(r'\(λ \S+ κ', proof.argument_at(error.line, error.column)):
+        argument = proof.argument_at(error.line, error.column)
+        if not argument:
+            return MISFIT
+        if re.match(r'\(λ \S+ κ', argument):
             return REQUIRES
         return BOUND if re.search(r'`omega`|Nat\._[<≤]_', error.text) else PROMISE
     classes = {class_of_need(need) for need in proof.needs_by(error.declaration)}
@@ -134,7 +136,7 @@ def examine(root, entries):
     """For each edit and each needless entry its name with a complaint, or None; and the class of each edit."""
     results, classes = [], {}
     complaints = {
-        MISFIT: 'the proof file does not fit the code',
+        MISFIT: 'the proof file does not fit the code, or does not tell which need this is',
         BOUND: "the first error is an array's bound or a number that does not fit its type",
         REQUIRES: "the first error is a callee's `requires`, and requires.txt does not say why that is the promise",
     }
