@@ -3,22 +3,9 @@
  * that are named, for callgrind to count. Exit status: 0 where it was accepted, started twice and came home.
  */
 #include "jugrond.h"
-
-#include <stdio.h>
+#include "load.h"
 
 static uint8_t image[65536], ticket[65536], memory[JUGROND_MEMORY_BYTES];
-
-static size_t load(const char *name, uint8_t *to)
-{
-    FILE *f = fopen(name, "rb");
-    size_t n;
-
-    if (f == NULL)
-        return 0;
-    n = fread(to, 1, 65536, f);
-    fclose(f);
-    return n;
-}
 
 int main(int count, char **names)
 {

@@ -1,23 +1,12 @@
 /* One call of a verdict, VERDICT, on the two files that are named, for callgrind to count. Prints what was answered. */
 #include "jugrond.h"
+#include "load.h"
 #include "peer.h"
 
 #include <inttypes.h>
 #include <stdio.h>
 
 static uint8_t image[65536], ticket[65536];
-
-static size_t load(const char *name, uint8_t *to)
-{
-    FILE *f = fopen(name, "rb");
-    size_t n;
-
-    if (f == NULL)
-        return 0;
-    n = fread(to, 1, 65536, f);
-    fclose(f);
-    return n;
-}
 
 int main(int count, char **names)
 {
