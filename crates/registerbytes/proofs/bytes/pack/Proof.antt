@@ -1,4 +1,4 @@
--- `monitor::bytes::pack` meets its contract: eleven stores leave nothing of what the bytes were.
+-- `registerbytes::bytes::pack` meets its contract: eleven stores leave nothing of what the bytes were.
 -- Assumes nothing.
 use borrow.Author.Needs.{needs}
 use mathlib.Core.Path.{_≡_, sym, _∙_}

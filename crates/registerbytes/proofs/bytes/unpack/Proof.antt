@@ -1,4 +1,4 @@
--- `monitor::bytes::unpack` meets its contract: each register is the byte or the word at its place.
+-- `registerbytes::bytes::unpack` meets its contract: each register is the byte or the word at its place.
 -- Assumes nothing.
 use borrow.Author.Needs.{needs}
 use Rattle.registerbytes.specs.Bytes.{unpacked}
