@@ -8,9 +8,10 @@
  * A buffer is lent as a pointer and its length in bytes. Pointers are not null, and what they lend does not overlap.
  * A call keeps nothing that was lent to it, and touches no byte past the lengths.
  *
- * What a call does not answer it leaves as it was lent. A refusal writes its place and nothing else; only a run that is
- * stopped on its way keeps what was done before, and writes its cycles too. Where nothing is refused, the place is not
- * written. So the outcome alone tells which lent numbers are written: each call below names them.
+ * What a call does not answer it leaves as it was lent. A refusal writes its place and nothing else; only a run that 22
+ * or 23 stops keeps what was done before, and writes its cycles too: 0 where it is stopped at its first instruction.
+ * Where nothing is refused, the place is not written. So the outcome alone tells which lent numbers are written: each
+ * call below names them.
  */
 #ifndef JUGROND_H
 #define JUGROND_H
@@ -109,7 +110,7 @@ uint32_t jugrond_verdict(const uint8_t *ticket, size_t ticket_length, const uint
 /*
  * Judges a routine and, where it is accepted, starts it: the image goes to the code window, two zero bytes to the end
  * of the stack window, SP below them and PC to the entry. A, B, X, Y, flags and every other byte of memory stay as they
- * are lent. jugrond_run then brings it home.
+ * are lent. jugrond_run then brings it home, where its budget covers the certified cycles.
  * JUGROND_ACCEPTED: registers and memory are the start; *place is not written.
  * JUGROND_BAD_LENGTH, looked at first: *place is 0. 1 to 20 as jugrond_verdict: *place is the cause's place. In both
  * nothing else is written.

@@ -2,9 +2,10 @@
 
 A statement is the law's signature with the parameters of the modules around it, and with it, as far as names lead,
 - every type and proposition (a record, a data type, a definition whose signature ends in `Type`),
-- and every other definition by which no contract is stated: one of proofs/, or one of specs/ that no contract cites,
-  directly or through others.
-What a contract is stated by, as `stepOf`, is not followed: the code holds it. Of it, and of a library's name, only
+- and every other definition that the code is not held to: one of proofs/, or one of specs/ that no contract computes
+  with, directly or through others. What a contract cites inside a proposition alone, as `inUseAfter` in demand 3, is one:
+  the code would meet its contract with another, too.
+What a contract computes with, as `stepOf`, is not followed: the code holds it. Of it, and of a library's name, only
 where it comes from belongs to the words. White space and comments do not count.
 """
 import hashlib
@@ -137,19 +138,20 @@ class Project:
                     seen.append(what)
         return seen
 
-    def closure(self, start):
-        """The declarations that some lead to by all that they say."""
-        reached, left = set(start), list(start)
+    def closure(self, start, types=True):
+        """The declarations that some lead to by all that they say; without types, not through these."""
+        reached = {d for d in start if types or not d.is_type}
+        left = list(reached)
         while left:
             d = left.pop()
             for what in self.named(d.file, d.around + [d.signature] + d.body):
-                if isinstance(what, Declaration) and what not in reached:
+                if isinstance(what, Declaration) and what not in reached and (types or not what.is_type):
                     reached.add(what)
                     left.append(what)
         return reached
 
     def stated_by(self):
-        """The definitions by which contracts are stated."""
+        """The definitions that contracts compute with."""
         cited = []
         for source in sorted(self.crates.glob('*/src/**/*.rt')):
             for line in source.read_text().split('\n'):
@@ -158,7 +160,7 @@ class Project:
                         other = self.module(path)
                         if other and (d := other.declarations.get(name) or other.constructors.get(name)):
                             cited.append(d)
-        return self.closure(cited)
+        return self.closure(cited, types=False)
 
     def cited_by_proofs(self):
         """The declarations that the proof of some function leads to."""

@@ -609,8 +609,8 @@ static void two_successors(void)
     refused("BEQ, its target at another depth", r, 15, 0x8000);
 }
 
-/* Two causes that apply: at one place the lower number is answered, else the earlier place. 10 never meets 13 or 15,
- * nor 12 either 11 or 13. */
+/* Two causes that apply: at one place the lower number is answered, else the earlier place. 10 never meets 13, nor
+ * 12 either 11 or 13. */
 static void order(void)
 {
     struct judged *r = p();
@@ -635,6 +635,8 @@ static void order_of_10(void)
     refused("10 before 11: LDS without its last byte", alone(IMAGE("\x8e\x01")), 10, 0x8000);
     refused("10 before 12: BSET $42 without its mask", alone(IMAGE("\x14\x42")), 10, 0x8000);
     refused("10 before 14: LDAA without its operand", alone(IMAGE("\x86")), 10, 0x8000);
+    refused("10 before 15: JMP without its last byte",
+            marked_twice(IMAGE("\x39\x7e\x80"), MARK(0x8000, 5, 0, 0), MARK(0x8001, 100, 1, 100)), 10, 0x8001);
     r = alone(IMAGE("\x86"));
     r->marks[0].cost = 0;
     refused("10 before 16: LDAA without its operand, cost 0", r, 10, 0x8000);

@@ -27,18 +27,19 @@ module _ (c p : ℕ) (rs m : List ℕ) (h : length rs ≡ 11) where
 abbrev pub uncounted : Called → Called
 uncounted a = called (a .outcome) 0 (a .place) (a .registers) (a .memory)
 
-module _ (c p : ℕ) (rs m : List ℕ) (budget : ℕ) (h : length rs ≡ 11) (bytes : (i : ℕ) → getD rs i 0 < 256) where
+module _ (c p : ℕ) (rs m : List ℕ) (budget : ℕ) (h : length rs ≡ 11) where
   pub run-agrees : length m ≡ 65536
       → runBytesOf c p rs m budget ≡ ofRun (runOf (unpacked rs) m budget .answer) p (runOf (unpacked rs) m budget .memory)
   unfolding runBytesOf
   run-agrees g = simp (eq-eqb _ _ h, eq-eqb _ _ g)
 
-  run-by : (b : Bool) → eqb (length m) 65536 ≡ b
+  run-by : ((i : ℕ) → getD rs i 0 < 256) → (b : Bool) → eqb (length m) 65536 ≡ b
       → uncounted (runBytesOf c p rs m budget) ≡ uncounted (ofRun (runOf (unpacked rs) m budget .answer) p (runOf (unpacked rs) m budget .memory))
   unfolding runBytesOf runOf
-  run-by true e = simp (eq-eqb _ _ h, e)
-  run-by false e = simp (eq-eqb _ _ h, e, packed-unpacked rs bytes h)
+  run-by bytes true e = simp (eq-eqb _ _ h, e)
+  run-by bytes false e = simp (eq-eqb _ _ h, e, packed-unpacked rs bytes h)
 
-  pub run-agrees-uncounted : uncounted (runBytesOf c p rs m budget)
+  pub run-agrees-uncounted : ((i : ℕ) → getD rs i 0 < 256)
+      → uncounted (runBytesOf c p rs m budget)
       ≡ uncounted (ofRun (runOf (unpacked rs) m budget .answer) p (runOf (unpacked rs) m budget .memory))
-  run-agrees-uncounted = run-by (eqb (length m) 65536) refl
+  run-agrees-uncounted bytes = run-by bytes (eqb (length m) 65536) refl

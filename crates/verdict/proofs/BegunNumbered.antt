@@ -66,6 +66,10 @@ module _ (image : List ℕ) (d : Data) (m : List ℕ) where
   begun-not-zero (Admission.Refused r) p = p
   begun-not-zero (Admission.Granted h c k) p = started-not-zero h
 
+  -- nor a start's, by any header
+  pub started-numbered : (h : Header) (r : Refusal) → startedOf h d image m ≡ Refused r → 1 ≤ r .number
+  started-numbered h r e = rw e at (started-not-zero h)
+
   -- by whether the memory has 65,536 bytes
   sized-not-zero : (b : Bool) (a : Admission) → AdmissionNotZero a
       → NotZero (cond b (begunBy a d image m) (begun (Refused (refusal 21 0)) m) .answer)
