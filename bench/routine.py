@@ -1,7 +1,7 @@
 #!/usr/bin/env python3
 """routine.py FOLDER MARKS INSTRUCTION CYCLES: a routine that is accepted, written to FOLDER/image and FOLDER/ticket.
-The instruction, given in hexadecimal with its cycles, goes on to the next, again and again; an RTS stands at the end; each
-has a mark."""
+The instruction, given in hexadecimal with its cycles, goes on to the next, again and again; an RTS stands at the end;
+each has a mark."""
 import sys
 from struct import pack
 

@@ -32,7 +32,7 @@ UNPROVED = re.compile(r'note: \S+: it is not proved that .*\(`([^`]*)`\)$')
 
 
 class FirstError:
-    """Its text; where it stands: file, place and declaration, or the need of a proof that the toolchain makes itself."""
+    """Its text, and where it stands: file, place and declaration, or the need of a proof that the toolchain makes."""
 
     def __init__(self, log):
         self.text = ''

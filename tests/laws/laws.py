@@ -125,7 +125,7 @@ FAULTS = [
     ('a weakened proposition behind others', 'demand-3 (rules/proofs/Demand.antt)', OTHER,
      RULES, 'pub code-start : 1 ≤', 'pub code-start : 0 ≤'),
     ('a weakened function of a proposition', 'demand-3 (rules/proofs/Demand.antt)', OTHER,
-     'crates/rules/specs/Trace.antt', 'inUseAfter calls ws used = addresses ws ∷ used', 'inUseAfter calls ws used = [] ∷ used'),
+     'crates/rules/specs/Trace.antt', 'calls ws used = addresses ws ∷ used', 'calls ws used = [] ∷ used'),
     ('another meaning behind a word', 'same-bytes (ticket/proofs/WrittenRead.antt)', OTHER,
      'crates/ticket/specs/RoundTrip.antt', 'use Prim.Native.Nat.{ℕ, _≤_}', 'use Prim.Native.Nat.{ℕ, _<_ as _≤_}'),
     ('a weakened function of laws alone', RUN_SUMS, OTHER,

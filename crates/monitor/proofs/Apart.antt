@@ -1,4 +1,5 @@
--- Two different answers of the verdict leave something different in C, since no refusal is numbered 0: from what a call leaves the answer is found again.
+-- Two different answers of the verdict leave something different in C, since no refusal is numbered 0: from what a call
+-- leaves the answer is found again.
 -- Assumes nothing.
 use Prim.Native.Nat.{ℕ}
 use mathlib.Core.Path.{_≡_, refl, sym, ap, _∙_}
@@ -61,7 +62,8 @@ module _ (e c s p : ℕ) where
   verdict-back (Accept entry cost stack) n = refl
   verdict-back (Refuse r) n = rw (ne-eqb _ _ n)
 
-  pub verdicts-apart : (v w : Verdict) → NumberedVerdict v → NumberedVerdict w → ofVerdict v e c s p ≡ ofVerdict w e c s p → v ≡ w
+  pub verdicts-apart : (v w : Verdict) → NumberedVerdict v → NumberedVerdict w
+      → ofVerdict v e c s p ≡ ofVerdict w e c s p → v ≡ w
   verdicts-apart v w n o h = sym (verdict-back v n) ∙ ap verdictFrom h ∙ verdict-back w o
 
 module _ (p : ℕ) (rs m : List ℕ) where
@@ -69,7 +71,8 @@ module _ (p : ℕ) (rs m : List ℕ) where
   start-back (At q) n = ap (λ (r : Registers). At r) (unpacked-packed q)
   start-back (Refused r) n = rw (ne-eqb _ _ n)
 
-  pub starts-apart : (a b : Started) → NumberedStart a → NumberedStart b → ofStarted a p rs m ≡ ofStarted b p rs m → a ≡ b
+  pub starts-apart : (a b : Started) → NumberedStart a → NumberedStart b
+      → ofStarted a p rs m ≡ ofStarted b p rs m → a ≡ b
   starts-apart a b n o h = sym (start-back a n) ∙ ap startFrom h ∙ start-back b o
 
 module _ (p : ℕ) (slot : List ℕ) where
@@ -77,5 +80,6 @@ module _ (p : ℕ) (slot : List ℕ) where
   admission-back (Admission.Granted h c s) n = rw (header-in-slot h c s, cost-in-slot h c s, stack-in-slot h c s)
   admission-back (Admission.Refused r) n = rw (ne-eqb _ _ n)
 
-  pub admissions-apart : (a b : Admission) → NumberedAdmission a → NumberedAdmission b → ofAdmission a p slot ≡ ofAdmission b p slot → a ≡ b
+  pub admissions-apart : (a b : Admission) → NumberedAdmission a → NumberedAdmission b
+      → ofAdmission a p slot ≡ ofAdmission b p slot → a ≡ b
   admissions-apart a b n o h = sym (admission-back a n) ∙ ap admissionFrom h ∙ admission-back b o

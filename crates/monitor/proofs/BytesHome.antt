@@ -1,4 +1,5 @@
--- What comes home from registers and a memory comes home from the registers' bytes by C's run; so what the start call answers with 0 comes home.
+-- What comes home from registers and a memory comes home from the registers' bytes by C's run; so what the start call
+-- answers with 0 comes home.
 -- Assumes nothing.
 use Prim.Native.Nat.{ℕ, _≤_}
 use mathlib.Core.Path.{_≡_, refl, sym, ap}
@@ -62,7 +63,8 @@ module _ (ticket image rs m : List ℕ) (eleven : length rs ≡ 11) (C : Certain
       }
 
 -- of the registers that the bytes hold, within the same figures
-from-unpacked : (ticket image rs m : List ℕ) → length rs ≡ 11 → (r : Registers) → r ≡ unpacked rs → (C : Certain ticket image r m)
+from-unpacked : (ticket image rs m : List ℕ) → length rs ≡ 11 → (r : Registers) → r ≡ unpacked rs
+    → (C : Certain ticket image r m)
     → (H : BytesComeHome ticket image rs m) × (H .certain .cost ≡ C .cost) × (H .certain .stack ≡ C .stack)
 from-unpacked ticket image rs m eleven r e = rw e (λ C. (bytes-come-home ticket image rs m eleven C, refl, refl))
 
@@ -92,6 +94,7 @@ module _ (p : ℕ) (ticket image rs m : List ℕ) (bytes : AllBytes ticket) wher
   home-sized true z = home-of (b .answer) refl z
   home-sized false z = absurd (omega (arith, z))
 
-pub started-bytes-come-home : (p : ℕ) (ticket image rs m : List ℕ) → AllBytes ticket → StartedBytesComeHome p ticket image rs m
+pub started-bytes-come-home : (p : ℕ) (ticket image rs m : List ℕ) → AllBytes ticket
+    → StartedBytesComeHome p ticket image rs m
 unfolding startBytesOf
 started-bytes-come-home p ticket image rs m bytes = home-sized p ticket image rs m bytes (eqb (length rs) 11)

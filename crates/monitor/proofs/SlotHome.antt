@@ -34,7 +34,8 @@ module _ (ticket image : List ℕ) (bytes : AllBytes ticket) where
   slot-comes-home h cost stack e p rs m eleven whole =
       let S = admitted-comes-home ticket image bytes h cost stack e (dataOf (unpacked rs)) m whole in
       let H = packed-come-home ticket image (S .0) (loadedOf h image m) (S .2) in
-      let started : startSlotOf p (slotOf h cost stack) image rs m ≡ beginning 0 p (packed (S .0)) (loadedOf h image m) =
+      let slot = slotOf h cost stack in
+      let started : startSlotOf p slot image rs m ≡ beginning 0 p (packed (S .0)) (loadedOf h image m) =
       rw (header-in-slot h cost stack, eq-eqb _ _ (slot-length h cost stack), eq-eqb _ _ eleven, S .1) in
       rw started (
         refl,
@@ -57,9 +58,11 @@ module _ (ticket image : List ℕ) (bytes : AllBytes ticket) where
     home-sized true z = home-of (admittedOf ticket image) refl z
     home-sized false z = absurd (omega (arith, z))
 
-pub filled-slot-comes-home : (p : ℕ) (ticket image slot : List ℕ) → AllBytes ticket → FilledSlotComesHome p ticket image slot
+pub filled-slot-comes-home : (p : ℕ) (ticket image slot : List ℕ) → AllBytes ticket
+    → FilledSlotComesHome p ticket image slot
 unfolding certifyBytesOf
 filled-slot-comes-home p ticket image slot bytes = home-sized ticket image bytes p slot (eqb (length slot) 24)
 
 pub starts-from-filled-slot : (slot image : List ℕ) → StartsFromFilledSlot slot image
-starts-from-filled-slot slot image ticket bytes F = (rw (F .2) at (filled-slot-comes-home (F .0) ticket image (F .1) bytes)) refl
+starts-from-filled-slot slot image ticket bytes F =
+    (rw (F .2) at (filled-slot-comes-home (F .0) ticket image (F .1) bytes)) refl

@@ -13,8 +13,9 @@ use Rattle.registerbytes.specs.Calls.{called, runBytesOf}
 use Rattle.monitor.specs.Slot.{costIn, stackIn}
 use Rattle.monitor.specs.Routine.{Beginning, startBytesOf, filling, certifyBytesOf, startSlotOf}
 
--- from the register bytes rs and the memory m the routine comes home; and so does C's run on them, whatever is lent as cycles c and place p: for every budget b that covers the way home it answers home,
--- with the way's cycles, and the registers and the memory at its end; for every other budget spent, as far along the way as the budget goes
+-- from the register bytes rs and the memory m the routine comes home; and so does C's run on them, whatever is lent as
+-- cycles c and place p: for every budget b that covers the way home it answers home, with the way's cycles, and the
+-- registers and the memory at its end; for every other budget spent, as far along the way as the budget goes
 pub record BytesComeHome (ticket image rs m : List ℕ) : Type 0 where
   pub certain : Certain ticket image (unpacked rs) m
   pub covered : (b c p : ℕ) → let H = certain .comes-home in
@@ -28,13 +29,16 @@ abbrev pub StartedBytesComeHome : (place : ℕ) (ticket image registers memory :
 StartedBytesComeHome p ticket image rs m =
     let b = startBytesOf p ticket image rs m in b .outcome ≡ 0 → BytesComeHome ticket image (b .registers) (b .memory)
 
--- every start from a slot comes home, whatever the registers, the memory and the place that are lent, within the slot's certified figures
+-- every start from a slot comes home, whatever the registers, the memory and the place that are lent, within the slot's
+-- certified figures
 abbrev pub SlotComesHome : (ticket image slot : List ℕ) → Type 0
 SlotComesHome ticket image slot =
     (p : ℕ) (rs m : List ℕ) → length rs ≡ 11 → length m ≡ 65536
     → let b = startSlotOf p slot image rs m in
     (b .outcome ≡ 0)
-    × (H : BytesComeHome ticket image (b .registers) (b .memory)) × (H .certain .cost ≡ costIn slot) × (H .certain .stack ≡ stackIn slot)
+    × (H : BytesComeHome ticket image (b .registers) (b .memory))
+    × (H .certain .cost ≡ costIn slot)
+    × (H .certain .stack ≡ stackIn slot)
 
 -- a slot that was filled comes home
 abbrev pub FilledSlotComesHome : (place : ℕ) (ticket image slot : List ℕ) → Type 0
@@ -47,4 +51,5 @@ FilledFor ticket image slot = (p : ℕ) × (old : List ℕ) × (certifyBytesOf p
 
 -- so every start from such a slot comes home
 abbrev pub StartsFromFilledSlot : (slot image : List ℕ) → Type 0
-StartsFromFilledSlot slot image = (ticket : List ℕ) → AllBytes ticket → FilledFor ticket image slot → SlotComesHome ticket image slot
+StartsFromFilledSlot slot image =
+    (ticket : List ℕ) → AllBytes ticket → FilledFor ticket image slot → SlotComesHome ticket image slot

@@ -1,5 +1,6 @@
--- What the C calls of the verdict and of the start come to, by the verdict's own definitions (document 01, "The machine": the press monitor is written in C). What a call does not answer
--- stays as it was lent (demand 1: a refusal alters no lent byte).
+-- What the C calls of the verdict and of the start come to, by the verdict's own definitions (document 01, "The
+-- machine": the press monitor is written in C). What a call does not answer stays as it was lent (demand 1: a refusal
+-- alters no lent byte).
 -- Assumes nothing.
 use Prim.Native.Nat.{ℕ}
 use mathlib.Core.Bool.{cond, _&&_}
@@ -71,9 +72,11 @@ ofAdmission (Admission.Refused r) p bs = filling (r .number) (r .place) bs
 
 -- 21 at 0 is checked first, of the slot; then what the verdict refuses is refused
 unfoldable pub certifyBytesOf : (place : ℕ) (ticket image slot : List ℕ) → Filling
-certifyBytesOf p ticket image bs = cond (eqb (length bs) 24) (ofAdmission (admittedOf ticket image) p bs) (filling 21 0 bs)
+certifyBytesOf p ticket image bs =
+    cond (eqb (length bs) 24) (ofAdmission (admittedOf ticket image) p bs) (filling 21 0 bs)
 
--- the start from a slot of any bytes. 21 at 0 is checked first, of the slot, the registers and the memory; then 9, of the image
+-- the start from a slot of any bytes. 21 at 0 is checked first, of the slot, the registers and the memory; then 9, of
+-- the image
 unfoldable pub startSlotOf : (place : ℕ) (slot image registers memory : List ℕ) → Beginning
 startSlotOf p bs image rs m =
     let h = headerIn bs in

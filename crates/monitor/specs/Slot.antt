@@ -21,8 +21,8 @@ windowBytes w = wordBytes (w .start) ++ wordBytes (w .length)
 -- the windows of code, data and stack, the entry, the cycle limit; the certified cycles, the stack bytes
 unfoldable pub slotOf : Header → Cycles → StackBytes → List ℕ
 slotOf h cost stack =
-    windowBytes (h .code) ++ windowBytes (h .«data») ++ windowBytes (h .stack) ++ wordBytes (h .entry) ++ longBytes (h .limit .0)
-    ++ longBytes (cost .0) ++ wordBytes (stack .0)
+    windowBytes (h .code) ++ windowBytes (h .«data») ++ windowBytes (h .stack)
+    ++ wordBytes (h .entry) ++ longBytes (h .limit .0) ++ longBytes (cost .0) ++ wordBytes (stack .0)
 
 -- stored there
 abbrev pub withLong : List ℕ → ℕ → ℕ → List ℕ
@@ -39,7 +39,14 @@ abbrev pub windowIn : List ℕ → ℕ → Window
 windowIn bs i = record { start = wordIn bs i; length = wordIn bs (i + 2) }
 
 unfoldable pub headerIn : List ℕ → Header
-headerIn bs = record { code = windowIn bs 0; «data» = windowIn bs 4; stack = windowIn bs 8; entry = wordIn bs 12; limit = record { 0 = longIn bs 14 } }
+headerIn bs =
+    record {
+      code = windowIn bs 0;
+      «data» = windowIn bs 4;
+      stack = windowIn bs 8;
+      entry = wordIn bs 12;
+      limit = record { 0 = longIn bs 14 };
+    }
 
 unfoldable pub costIn : List ℕ → Cycles
 costIn bs = record { 0 = longIn bs 18 }

@@ -1,10 +1,11 @@
-// The press monitor's C calls: thin entries over the stepper and the verdict, on numbers and byte slices. Each takes any input. What a call does not answer it leaves as it was lent.
-// Their header is include/jugrond.h.
+// The press monitor's C calls: thin entries over the stepper and the verdict, on numbers and byte slices. Each takes
+// any input. What a call does not answer it leaves as it was lent. Their header is include/jugrond.h.
 ghost use mathlib.Core.Path.{_≡_};
 ghost use Rattle.rules.specs.Checks.{verdictOf};
 ghost use Rattle.verdict.specs.Promise.{Promised};
 ghost use Rattle.registerbytes.specs.Calls.{called, resetBytesOf, stepBytesOf, runBytesOf};
-ghost use Rattle.monitor.specs.Routine.{judged, ofVerdict, beginning, startBytesOf, filling, certifyBytesOf, startSlotOf};
+ghost use Rattle.monitor.specs.Routine.{judged, ofVerdict, beginning, startBytesOf};
+ghost use Rattle.monitor.specs.Routine.{filling, certifyBytesOf, startSlotOf};
 ghost use Rattle.monitor.specs.Home.{StartedBytesComeHome, FilledSlotComesHome, StartsFromFilledSlot};
 use registerbytes::bytes::pack;
 use registerbytes::calls;
@@ -66,7 +67,8 @@ pub extern "C" fn jugrond_verdict(
     place: &mut u32,
 ) -> u32
     ensures { λ q. ⌜ (judged q (now (entry .exit)) (now (cost .exit)) (now (stack .exit)) (now (place .exit))
-        ≡ ofVerdict (verdictOf (now (ticket .entry)) (now (image .entry))) (now (entry .entry)) (now (cost .entry)) (now (stack .entry)) (now (place .entry)))
+        ≡ ofVerdict (verdictOf (now (ticket .entry)) (now (image .entry)))
+        (now (entry .entry)) (now (cost .entry)) (now (stack .entry)) (now (place .entry)))
         × Promised (now (ticket .entry)) (now (image .entry)) ⌝ }
 {
     match verdict(ticket, image) {
@@ -83,7 +85,8 @@ pub extern "C" fn jugrond_verdict(
     }
 }
 
-// Judges a routine and, where it is accepted, starts it with A, B, X, Y and flags as they are lent: what is started comes home.
+// Judges a routine and, where it is accepted, starts it with A, B, X, Y and flags as they are lent: what is started
+// comes home.
 #[no_mangle]
 pub extern "C" fn jugrond_start(
     ticket: &[u8],
@@ -93,8 +96,10 @@ pub extern "C" fn jugrond_start(
     place: &mut u32,
 ) -> u32
     ensures { λ q. ⌜ (beginning q (now (place .exit)) (now (regs .exit)) (now (mem .exit))
-        ≡ startBytesOf (now (place .entry)) (now (ticket .entry)) (now (image .entry)) (now (regs .entry)) (now (mem .entry)))
-        × StartedBytesComeHome (now (place .entry)) (now (ticket .entry)) (now (image .entry)) (now (regs .entry)) (now (mem .entry)) ⌝ }
+        ≡ startBytesOf (now (place .entry)) (now (ticket .entry)) (now (image .entry))
+        (now (regs .entry)) (now (mem .entry)))
+        × StartedBytesComeHome (now (place .entry)) (now (ticket .entry)) (now (image .entry))
+        (now (regs .entry)) (now (mem .entry)) ⌝ }
 {
     routine::answer(routine::start_on(ticket, image, regs, mem), place)
 }
@@ -107,13 +112,15 @@ pub extern "C" fn jugrond_certify(
     slot: &mut [u8],
     place: &mut u32,
 ) -> u32
-    ensures { λ q. ⌜ (filling q (now (place .exit)) (now (slot .exit)) ≡ certifyBytesOf (now (place .entry)) (now (ticket .entry)) (now (image .entry)) (now (slot .entry)))
+    ensures { λ q. ⌜ (filling q (now (place .exit)) (now (slot .exit))
+        ≡ certifyBytesOf (now (place .entry)) (now (ticket .entry)) (now (image .entry)) (now (slot .entry)))
         × FilledSlotComesHome (now (place .entry)) (now (ticket .entry)) (now (image .entry)) (now (slot .entry)) ⌝ }
 {
     routine::answer(slot::certify_into(ticket, image, slot), place)
 }
 
-// Starts the routine that a slot was filled for, without judging it: from a slot that was filled for this image it comes home.
+// Starts the routine that a slot was filled for, without judging it: from a slot that was filled for this image it
+// comes home.
 #[no_mangle]
 pub extern "C" fn jugrond_start_certified(
     slot: &[u8],
@@ -123,7 +130,8 @@ pub extern "C" fn jugrond_start_certified(
     place: &mut u32,
 ) -> u32
     ensures { λ q. ⌜ (beginning q (now (place .exit)) (now (regs .exit)) (now (mem .exit))
-        ≡ startSlotOf (now (place .entry)) (now (slot .entry)) (now (image .entry)) (now (regs .entry)) (now (mem .entry)))
+        ≡ startSlotOf (now (place .entry)) (now (slot .entry)) (now (image .entry))
+        (now (regs .entry)) (now (mem .entry)))
         × StartsFromFilledSlot (now (slot .entry)) (now (image .entry)) ⌝ }
 {
     routine::answer(slot::start_from(slot, image, regs, mem), place)

@@ -53,7 +53,8 @@ pub fn data_in(regs: &[u8]) -> Data
 // The start's registers are stored; a refusal stores nothing.
 pub fn stored(s: Started, regs: &mut [u8]) -> Outcome
     requires { ⌜ length (now regs) ≡ 11 ⌝ }
-    ensures { λ a. ⌜ ((p : ℕ) (m : List ℕ) → beginning (numberOf a) (placeAfter a p) (now (regs .exit)) m ≡ ofStarted s p (now (regs .entry)) m) ⌝ }
+    ensures { λ a. ⌜ ((p : ℕ) (m : List ℕ) → beginning (numberOf a) (placeAfter a p) (now (regs .exit)) m
+        ≡ ofStarted s p (now (regs .entry)) m) ⌝ }
 {
     match s {
         Started::At(q) => {

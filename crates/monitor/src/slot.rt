@@ -103,7 +103,8 @@ fn put_slot(h: Header, cost: Cycles, stack: StackBytes, slot: &mut [u8])
 
 // Judges a routine and, where it is accepted, fills the slot.
 pub fn certify_into(ticket: &[u8], image: &[u8], slot: &mut [u8]) -> Outcome
-    ensures { λ a. ⌜ ((p : ℕ) → filling (numberOf a) (placeAfter a p) (now (slot .exit)) ≡ certifyBytesOf p (now (ticket .entry)) (now (image .entry)) (now (slot .entry))) ⌝ }
+    ensures { λ a. ⌜ ((p : ℕ) → filling (numberOf a) (placeAfter a p) (now (slot .exit))
+        ≡ certifyBytesOf p (now (ticket .entry)) (now (image .entry)) (now (slot .entry))) ⌝ }
 {
     if slot.len() != 24 {
         return Outcome::Refused(refuse(21, 0));

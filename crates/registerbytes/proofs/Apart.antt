@@ -1,4 +1,5 @@
--- Two different answers of the stepper leave something different in C: from what a call leaves the answer is found again.
+-- Two different answers of the stepper leave something different in C: from what a call leaves the answer is found
+-- again.
 -- Assumes nothing.
 use Prim.Native.Nat.{ℕ}
 use mathlib.Core.Path.{_≡_, refl, sym, ap, _∙_}
@@ -46,7 +47,8 @@ module _ (c p : ℕ) (rs m : List ℕ) where
   ran-back (Ran.Home q k) = ap (λ (r : Registers). Ran.Home r k) (unpacked-packed q)
   ran-back (Ran.Spent q k) = ap (λ (r : Registers). Ran.Spent r k) (unpacked-packed q)
   ran-back (Ran.Refused q k BadMemory) = ap (λ (r : Registers). Ran.Refused r k BadMemory) (unpacked-packed q)
-  ran-back (Ran.Refused q k (NoInstruction pc)) = ap (λ (r : Registers). Ran.Refused r k (NoInstruction pc)) (unpacked-packed q)
+  ran-back (Ran.Refused q k (NoInstruction pc)) =
+      ap (λ (r : Registers). Ran.Refused r k (NoInstruction pc)) (unpacked-packed q)
   ran-back (Ran.Refused q k (Waits pc)) = ap (λ (r : Registers). Ran.Refused r k (Waits pc)) (unpacked-packed q)
 
   pub steps-apart : (a b : Stepped) → ofStep (answerOf a) c p rs m ≡ ofStep (answerOf b) c p rs m → a ≡ b

@@ -24,13 +24,14 @@ pub record Called : Type 0 where
 abbrev pub called : (outcome cycles place : ℕ) (registers memory : List ℕ) → Called
 called n k p rs m = record { outcome = n; cycles = k; place = p; registers = rs; memory = m }
 
--- what a call does not answer stays as it was lent: c, p and rs are the cycles, the place and the register bytes before it, m the memory after it.
--- Of a step: its cycles and registers, or the place of its refusal
+-- what a call does not answer stays as it was lent: c, p and rs are the cycles, the place and the register bytes before
+-- it, m the memory after it. Of a step: its cycles and registers, or the place of its refusal
 abbrev pub ofStep : Answer → (c p : ℕ) (rs m : List ℕ) → Called
 ofStep (done q k) c p rs m = called 0 (k .0) p (packed q) m
 ofStep (refused n at) c p rs m = called n c at rs m
 
--- of a run: each answer holds the cycles and the registers reached, a refusal on the way too. Document 01 has no number for spent; 100 lies past its refusals
+-- of a run: each answer holds the cycles and the registers reached, a refusal on the way too. Document 01 has no number
+-- for spent; 100 lies past its refusals
 abbrev pub ofRun : RunAnswer → (p : ℕ) (m : List ℕ) → Called
 ofRun (home q k) p m = called 0 (k .0) p (packed q) m
 ofRun (spent q k) p m = called 100 (k .0) p (packed q) m

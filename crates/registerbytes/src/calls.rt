@@ -63,7 +63,8 @@ fn reached(q: Registers, regs: &mut [u8], a: Reply) -> Reply
 
 // A refused step stores nothing.
 pub fn step_on(regs: &mut [u8], mem: &mut [u8]) -> Reply
-    ensures { λ a. ⌜ ((c p : ℕ) → replied a c p (now (regs .exit)) (now (mem .exit)) ≡ stepBytesOf c p (now (regs .entry)) (now (mem .entry))) ⌝ }
+    ensures { λ a. ⌜ ((c p : ℕ) → replied a c p (now (regs .exit)) (now (mem .exit))
+        ≡ stepBytesOf c p (now (regs .entry)) (now (mem .entry))) ⌝ }
 {
     if regs.len() != 11 {
         return Reply::Refused(BAD_LENGTH, 0);
@@ -80,7 +81,8 @@ pub fn step_on(regs: &mut [u8], mem: &mut [u8]) -> Reply
 
 // Every answer of a run holds the registers reached, a refusal on the way too.
 pub fn run_on(regs: &mut [u8], mem: &mut [u8], budget: u32) -> Reply
-    ensures { λ a. ⌜ ((c p : ℕ) → replied a c p (now (regs .exit)) (now (mem .exit)) ≡ runBytesOf c p (now (regs .entry)) (now (mem .entry)) budget) ⌝ }
+    ensures { λ a. ⌜ ((c p : ℕ) → replied a c p (now (regs .exit)) (now (mem .exit))
+        ≡ runBytesOf c p (now (regs .entry)) (now (mem .entry)) budget) ⌝ }
 {
     if regs.len() != 11 {
         return Reply::Refused(BAD_LENGTH, 0);
@@ -98,7 +100,8 @@ pub fn run_on(regs: &mut [u8], mem: &mut [u8], budget: u32) -> Reply
 
 // Only the numbers that are answered are written.
 pub fn answer(a: Reply, cycles: &mut u32, place: &mut u16) -> u32
-    ensures { λ n. ⌜ ((rs m : List ℕ) → called n (now (cycles .exit)) (now (place .exit)) rs m ≡ replied a (now (cycles .entry)) (now (place .entry)) rs m) ⌝ }
+    ensures { λ n. ⌜ ((rs m : List ℕ) → called n (now (cycles .exit)) (now (place .exit)) rs m
+        ≡ replied a (now (cycles .entry)) (now (place .entry)) rs m) ⌝ }
 {
     match a {
         Reply::Done(n, k) => {

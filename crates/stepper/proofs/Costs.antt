@@ -31,7 +31,8 @@ module _ (r : Registers) (m : List ℕ) (q : Registers) (k : Cycles) where
   by-wait false e c s = ap (λ (x : Cycles). x .0) (cc)
 
   -- an instruction that is done takes the cycles of its place, whatever it does
-  own-cycles : (p : ℕ) (a : Action) (o : Operand) → after (carriedOut p (Instruction a o) r m) m .answer ≡ done q k → cyclesAt p ≡ k .0
+  own-cycles : (p : ℕ) (a : Action) (o : Operand)
+      → after (carriedOut p (Instruction a o) r m) m .answer ≡ done q k → cyclesAt p ≡ k .0
   unfolding carriedOut
   own-cycles p a o s =
       let next = withPc r (plus (r .pc) (lengthAt p)) in

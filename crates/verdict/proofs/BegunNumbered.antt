@@ -40,7 +40,8 @@ if-not-zero : (h : Header) (v : Verdict) → RefusesNotZero v → AdmissionNotZe
 if-not-zero h (Refuse r) p = p r refl
 if-not-zero h (Accept entry cost stack) p = tt
 
-by-not-zero : (image : List ℕ) (o : Outcome) → RefusesNotZero (verdictBy o image) → AdmissionNotZero (admittedBy o image)
+by-not-zero : (image : List ℕ) (o : Outcome) → RefusesNotZero (verdictBy o image)
+    → AdmissionNotZero (admittedBy o image)
 by-not-zero image (refused r) p = p r refl
 by-not-zero image (read f) p = if-not-zero (f .header) (judgedOf f image) p
 
@@ -48,7 +49,8 @@ admitted-not-zero : (ticket image : List ℕ) → AdmissionNotZero (admittedOf t
 unfolding admittedOf verdictOf
 admitted-not-zero ticket image = by-not-zero image (readOf ticket) (λ r h. numbered ticket image r h .0)
 
-pub admission-numbered : (ticket image : List ℕ) (r : Refusal) → admittedOf ticket image ≡ Admission.Refused r → 1 ≤ r .number
+pub admission-numbered : (ticket image : List ℕ) (r : Refusal) → admittedOf ticket image ≡ Admission.Refused r
+    → 1 ≤ r .number
 admission-numbered ticket image r h = rw h at (admitted-not-zero ticket image)
 
 -- by the start's two tests

@@ -26,12 +26,14 @@ use Rattle.verdict.specs.declared.Admission.{Admission}
 use Rattle.verdict.specs.declared.Admission.the-variants as Admission
 use Rattle.verdict.specs.declared.Started.the-variants.{At, Refused}
 use Rattle.verdict.specs.Admission.{admittedIf, admittedBy, admittedOf, verdictIn}
-use Rattle.verdict.specs.Routine.{Begun, begun, begunBy, begunOf, Certain, StartedComesHome, StartComesHome, AdmittedComesHome}
+use Rattle.verdict.specs.Routine.{Begun, begun, begunBy, begunOf}
+use Rattle.verdict.specs.Routine.{Certain, StartedComesHome, StartComesHome, AdmittedComesHome}
 use Rattle.verdict.proofs.Claimed.{starts-as-claimed}
 
 module _ (ticket image : List ℕ) (bytes : AllBytes ticket) where
   -- of the fields that were read and accepted
-  start-comes-home : (f : Fields) → readOf ticket ≡ read f → (e : ℕ) (c : Cycles) (k : StackBytes) → judgedOf f image ≡ Accept e c k
+  start-comes-home : (f : Fields) → readOf ticket ≡ read f → (e : ℕ) (c : Cycles) (k : StackBytes)
+      → judgedOf f image ≡ Accept e c k
       → (d : Data) (m : List ℕ) → length m ≡ 65536 → StartComesHome ticket image (f .header) c k d m
   start-comes-home f h e c k j d m size =
       let R = read-rules ticket f bytes h in
@@ -45,7 +47,16 @@ module _ (ticket image : List ℕ) (bytes : AllBytes ticket) where
           entry = e;
           cost = c;
           stack = k;
-          certified = record { fields = f; bytes = R .0; fits = R .1; accepted = A .0; entry-is = A .1; cost-is = A .2; stack-is = A .3 };
+          certified =
+              record {
+                fields = f;
+                bytes = R .0;
+                fits = R .1;
+                accepted = A .0;
+                entry-is = A .1;
+                cost-is = A .2;
+                stack-is = A .3;
+              };
           comes-home = rw (cost, need) at (comes-home f image (A .0) d _ (L .1));
         },
         refl,
@@ -54,11 +65,13 @@ module _ (ticket image : List ℕ) (bytes : AllBytes ticket) where
 
   -- what is to be shown of an admission
   abbrev Homeward : Admission → Type 0
-  Homeward (Admission.Granted h c k) = (d : Data) (m : List ℕ) → length m ≡ 65536 → StartComesHome ticket image h c k d m
+  Homeward (Admission.Granted h c k) =
+      (d : Data) (m : List ℕ) → length m ≡ 65536 → StartComesHome ticket image h c k d m
   Homeward (Admission.Refused r) = Unit
 
   -- by the verdict on the fields that were read
-  homeward-if : (f : Fields) → readOf ticket ≡ read f → (v : Verdict) → judgedOf f image ≡ v → Homeward (admittedIf v (f .header))
+  homeward-if : (f : Fields) → readOf ticket ≡ read f → (v : Verdict) → judgedOf f image ≡ v
+      → Homeward (admittedIf v (f .header))
   homeward-if f h (Refuse x) j = tt
   homeward-if f h (Accept e c k) j = start-comes-home f h e c k j
 
@@ -72,7 +85,8 @@ module _ (ticket image : List ℕ) (bytes : AllBytes ticket) where
   homeward = homeward-by (readOf ticket) refl
 
   -- an admission is the verdict, by the same cases
-  verdict-if : (f : Fields) → readOf ticket ≡ read f → (v : Verdict) → judgedOf f image ≡ v → v ≡ verdictIn (admittedIf v (f .header))
+  verdict-if : (f : Fields) → readOf ticket ≡ read f → (v : Verdict) → judgedOf f image ≡ v
+      → v ≡ verdictIn (admittedIf v (f .header))
   verdict-if f h (Refuse x) j = refl
   verdict-if f h (Accept e c k) j =
       let A = accepted f image (read-rules ticket f bytes h .2) e c k j in ap (λ (x : ℕ). Accept x c k) (A .1)
@@ -84,7 +98,8 @@ module _ (ticket image : List ℕ) (bytes : AllBytes ticket) where
 pub admitted-comes-home : (ticket image : List ℕ) → AllBytes ticket → AdmittedComesHome ticket image
 admitted-comes-home ticket image bytes h c k e = rw e at (homeward ticket image bytes)
 
-pub verdict-admitted : (ticket image : List ℕ) → AllBytes ticket → verdictOf ticket image ≡ verdictIn (admittedOf ticket image)
+pub verdict-admitted : (ticket image : List ℕ) → AllBytes ticket
+    → verdictOf ticket image ≡ verdictIn (admittedOf ticket image)
 unfolding verdictOf admittedOf
 verdict-admitted ticket image bytes = verdict-by ticket image bytes (readOf ticket) refl
 
@@ -96,7 +111,8 @@ module _ (ticket image : List ℕ) (d : Data) (m : List ℕ) where
   Home b = (r : Registers) → b .answer ≡ At r → Certain ticket image r (b .memory)
 
   -- by what is admitted
-  home-by : (bytes : AllBytes ticket) → length m ≡ 65536 → (a : Admission) → Homeward ticket image bytes a → Home (begunBy a d image m)
+  home-by : (bytes : AllBytes ticket) → length m ≡ 65536 → (a : Admission) → Homeward ticket image bytes a
+      → Home (begunBy a d image m)
   home-by bytes size (Admission.Refused x) H r s = absurd (not-started x r s)
   home-by bytes size (Admission.Granted h c k) H r s =
       let S = H d m size in
@@ -106,7 +122,8 @@ module _ (ticket image : List ℕ) (d : Data) (m : List ℕ) where
   -- by whether the memory has 65,536 bytes
   home-sized : (bytes : AllBytes ticket) (b : Bool) → eqb (length m) 65536 ≡ b
       → Home (cond b (begunBy (admittedOf ticket image) d image m) (begun (Refused (refusal 21 0)) m))
-  home-sized bytes true e r s = home-by bytes (eqb-true _ _ e) (admittedOf ticket image) (homeward ticket image bytes) r s
+  home-sized bytes true e r s =
+      home-by bytes (eqb-true _ _ e) (admittedOf ticket image) (homeward ticket image bytes) r s
   home-sized bytes false e r s = absurd (not-started (refusal 21 0) r s)
 
 pub started-comes-home : (ticket image : List ℕ) → AllBytes ticket → (d : Data) (m : List ℕ) → StartedComesHome ticket image d m

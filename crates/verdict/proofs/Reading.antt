@@ -25,7 +25,8 @@ read-as (read f) e = (f, refl, refl)
 read-as (refused y) e = absurd (true≢false cc)
 
 module _ (ticket : List ℕ) (r : Reading) (e : r ≡ readingOf (readOf ticket)) where
-  pub admitted-refused : (image : List ℕ) (x : Refusal) → r .answer ≡ Refused x → admittedOf ticket image ≡ Admission.Refused x
+  pub admitted-refused : (image : List ℕ) (x : Refusal) → r .answer ≡ Refused x
+      → admittedOf ticket image ≡ Admission.Refused x
   unfolding admittedOf
   admitted-refused image x a = rw (refused-as (readOf ticket) x (rw e at a))
 

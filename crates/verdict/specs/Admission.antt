@@ -1,4 +1,5 @@
--- A routine judged, with what a start needs of an accepted one: its ticket's header and the certified figures (document 01, "Start"; "Acceptance answers ..").
+-- A routine judged, with what a start needs of an accepted one: its ticket's header and the certified figures (document
+-- 01, "Start"; "Acceptance answers ..").
 -- Assumes nothing.
 use Prim.Native.Nat.{ℕ}
 use mathlib.Core.List.{List}

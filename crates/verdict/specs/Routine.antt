@@ -35,7 +35,8 @@ begunBy (Admission.Granted h cost stack) d image m = begun (startedOf h d image 
 
 -- 21 is checked first; then what the verdict refuses is refused, and alters nothing
 unfoldable pub begunOf : List ℕ → List ℕ → Data → List ℕ → Begun
-begunOf ticket image d m = cond (eqb (length m) 65536) (begunBy (admittedOf ticket image) d image m) (begun (Refused (refusal 21 0)) m)
+begunOf ticket image d m =
+    cond (eqb (length m) 65536) (begunBy (admittedOf ticket image) d image m) (begun (Refused (refusal 21 0)) m)
 
 -- from the registers and the memory that are answered, the routine comes home
 pub record Certain (ticket image : List ℕ) (r : Registers) (m : List ℕ) : Type 0 where
@@ -52,7 +53,11 @@ StartedComesHome ticket image d m =
 -- a start by the header h succeeds and comes home, within these figures
 abbrev pub StartComesHome : List ℕ → List ℕ → Header → Cycles → StackBytes → Data → List ℕ → Type 0
 StartComesHome ticket image h cost stack d m =
-    (r : Registers) × (startedOf h d image m ≡ At r) × (C : Certain ticket image r (loadedOf h image m)) × (C .cost ≡ cost) × (C .stack ≡ stack)
+    (r : Registers)
+    × (startedOf h d image m ≡ At r)
+    × (C : Certain ticket image r (loadedOf h image m))
+    × (C .cost ≡ cost)
+    × (C .stack ≡ stack)
 
 -- what is admitted can be started again and again without being judged: every start by its header comes home
 abbrev pub AdmittedComesHome : List ℕ → List ℕ → Type 0

@@ -1,4 +1,5 @@
-// The verdict on a routine, and its start. `verdict`, `admit`, `start` and `start_routine` are the interface: they take any bytes, any header and any memory.
+// The verdict on a routine, and its start. `verdict`, `admit`, `start` and `start_routine` are the interface: they take
+// any bytes, any header and any memory.
 ghost use mathlib.Core.Path.{_≡_};
 ghost use Rattle.rules.specs.Checks.{verdictOf};
 ghost use Rattle.verdict.specs.Promise.{Promised};
@@ -28,9 +29,11 @@ pub enum Admission {
     Refused(Refusal),
 }
 
-// Reads the ticket and judges the routine. What is admitted comes home from every start by its header, without being judged again.
+// Reads the ticket and judges the routine. What is admitted comes home from every start by its header, without being
+// judged again.
 pub fn admit(ticket: &[u8], image: &[u8]) -> Admission
-    ensures { λ r. ⌜ (r ≡ admittedOf (now (ticket .entry)) (now (image .entry))) × AdmittedComesHome (now (ticket .entry)) (now (image .entry)) ⌝ }
+    ensures { λ r. ⌜ (r ≡ admittedOf (now (ticket .entry)) (now (image .entry)))
+        × AdmittedComesHome (now (ticket .entry)) (now (image .entry)) ⌝ }
 {
     let reading = read(ticket);
     let answer = reading.answer;
@@ -47,9 +50,11 @@ pub fn admit(ticket: &[u8], image: &[u8]) -> Admission
     }
 }
 
-// Accepts if and only if every ticket rule holds; else the first cause in document 01's order, with its place. An accepted routine comes home.
+// Accepts if and only if every ticket rule holds; else the first cause in document 01's order, with its place. An
+// accepted routine comes home.
 pub fn verdict(ticket: &[u8], image: &[u8]) -> Verdict
-    ensures { λ r. ⌜ (r ≡ verdictOf (now (ticket .entry)) (now (image .entry))) × Promised (now (ticket .entry)) (now (image .entry)) ⌝ }
+    ensures { λ r. ⌜ (r ≡ verdictOf (now (ticket .entry)) (now (image .entry)))
+        × Promised (now (ticket .entry)) (now (image .entry)) ⌝ }
 {
     match admit(ticket, image) {
         Admission::Refused(x) => Verdict::Refuse(x),

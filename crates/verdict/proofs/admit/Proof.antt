@@ -12,7 +12,8 @@ use Rattle.verdict.proofs.admit.Statement.{statement}
 use Rattle.verdict.proofs.admit.Tie as tie
 
 -- the ticket is a list of bytes
-home : (c : tie.After-read) → let s = c .before .before .before .args in AdmittedComesHome (s .ticket .now) (s .image .now)
+home : (c : tie.After-read)
+    → let s = c .before .before .before .args in AdmittedComesHome (s .ticket .now) (s .image .now)
 home c = admitted-comes-home _ _ (all-bytes _ (λ i. c .before .before .shared-slice-known .given i .fits))
 
 judge-requires : tie.Need-judge-requires

@@ -21,7 +21,8 @@ returns c = (simp (ne-eqb _ _ (c .before .if1 .taken), c .refuse .ensures), home
 -- where the routine is judged
 judged : (c : tie.After-admit)
     → let s = c .before .before .before .before .before .args in
-    begunBy (c .admit .result) (s .d) (s .image .now) (s .memory .now) ≡ begunOf (s .ticket .now) (s .image .now) (s .d) (s .memory .now)
+    begunBy (c .admit .result) (s .d) (s .image .now) (s .memory .now)
+    ≡ begunOf (s .ticket .now) (s .image .now) (s .d) (s .memory .now)
 unfolding begunOf
 judged c = rw (eq-eqb _ _ (c .before .if1 .left), c .admit .ensures .0)
 

@@ -18,7 +18,8 @@ bytes c = all-bytes _ (λ i. c .before .before .shared-slice-known .given i .fit
 
 answered : (c : tie.After-admit)
     → let s = c .before .before .before .args in
-    (verdictIn (c .admit .result) ≡ verdictOf (s .ticket .now) (s .image .now)) × Promised (s .ticket .now) (s .image .now)
+    (verdictIn (c .admit .result) ≡ verdictOf (s .ticket .now) (s .image .now))
+    × Promised (s .ticket .now) (s .image .now)
 answered c = (rw (c .admit .ensures .0) (sym (verdict-admitted _ _ (bytes c))), promised _ _ (bytes c))
 
 returns : tie.Need-returns

@@ -17,7 +17,8 @@ returns-2 c p =
     let s = c .before .before in
     let t = s .before .before .before .before in
     let d = t .before .before in
-    s .stored .ensures p _ ∙ rw (eq-eqb _ _ (d .before .before .if1 .left), ← d .data-in .ensures, ← t .start-routine .ensures .0)
+    s .stored .ensures p _
+    ∙ rw (eq-eqb _ _ (d .before .before .if1 .left), ← d .data-in .ensures, ← t .start-routine .ensures .0)
 
 pub start-on-spec : {M : Type 1} → statement M
 start-on-spec =

@@ -17,7 +17,10 @@ use Rattle.monitor.proofs.slot.put_slot.Tie as tie
 stored : (bs : List ℕ) → length bs ≡ 24 → (h : Header) (cost : Cycles) (stack : StackBytes)
     → withWord
     (withLong
-    (withLong (withWord (withWindow (withWindow (withWindow bs 0 (h .code)) 4 (h .«data»)) 8 (h .stack)) 12 (h .entry)) 14 (h .limit .0))
+    (withLong
+    (withWord (withWindow (withWindow (withWindow bs 0 (h .code)) 4 (h .«data»)) 8 (h .stack)) 12 (h .entry))
+    14
+    (h .limit .0))
     18
     (cost .0))
     22

@@ -13,7 +13,8 @@ returns c p = simp (ne-eqb _ _ (c .before .if1 .taken), c .refuse .ensures)
 
 returns-2 : tie.Need-returns-2
 unfolding startSlotOf
-returns-2 c p = simp (eq-eqb _ _ (c .before .before .if1 .left), ne-eqb _ _ (c .before .if2 .taken), c .refuse2 .ensures)
+returns-2 c p =
+    simp (eq-eqb _ _ (c .before .before .if1 .left), ne-eqb _ _ (c .before .if2 .taken), c .refuse2 .ensures)
 
 returns-3 : tie.Need-returns-3
 unfolding startSlotOf

@@ -25,20 +25,22 @@ answered w k p e =
     let unpacks = w .before .before in
     let sized = unpacks .before .before in
     let z = sized .before .before .before .before .args in
-    runs (z .regs .now) (z .mem .now) (sized .before .if1 .left) (sized .if2 .left) (unpacks .unpack .ensures) k p (z .budget)
-    (e ∙ w .run .ensures .0) (w .run .ensures .1)
+    runs (z .regs .now) (z .mem .now) (sized .before .if1 .left) (sized .if2 .left) (unpacks .unpack .ensures)
+    k p (z .budget) (e ∙ w .run .ensures .0) (w .run .ensures .1)
 
 returns-3 : tie.Need-returns-3
 returns-3 c k p =
     let d = c .before .before in
     let q = d .before .before .before in
-    simp (d .reached .ensures .0, d .reached .ensures .1) (answered (q .before .before .before .before) k p (ap ranOf (sym (q .q .given .1))))
+    simp (d .reached .ensures .0, d .reached .ensures .1)
+    (answered (q .before .before .before .before) k p (ap ranOf (sym (q .q .given .1))))
 
 returns-4 : tie.Need-returns-4
 returns-4 c k p =
     let d = c .before .before in
     let q = d .before .before .before in
-    simp (d .reached2 .ensures .0, d .reached2 .ensures .1) (answered (q .before .before .before .before) k p (ap ranOf (sym (q .q2 .given .1))))
+    simp (d .reached2 .ensures .0, d .reached2 .ensures .1)
+    (answered (q .before .before .before .before) k p (ap ranOf (sym (q .q2 .given .1))))
 
 returns-5 : tie.Need-returns-5
 returns-5 c k p =

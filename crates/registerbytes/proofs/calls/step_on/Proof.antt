@@ -32,12 +32,14 @@ returns-3 : tie.Need-returns-3
 returns-3 c k p =
     let d = c .before .before in
     let q = d .before .before .before in
-    simp (d .reached .ensures .0, d .reached .ensures .1) (answered (q .before .before .before .before) k p (ap answerOf (sym (q .q .given .1))))
+    simp (d .reached .ensures .0, d .reached .ensures .1)
+    (answered (q .before .before .before .before) k p (ap answerOf (sym (q .q .given .1))))
 
 returns-4 : tie.Need-returns-4
 returns-4 c k p =
     let x = c .before .before .before in
-    simp (c .before .number-of .ensures, c .place-of .ensures) (answered (x .before .before .before .before) k p (ap answerOf (sym (x .x .given .1))))
+    simp (c .before .number-of .ensures, c .place-of .ensures)
+    (answered (x .before .before .before .before) k p (ap answerOf (sym (x .x .given .1))))
 
 pub step-on-spec : {M : Type 1} → statement M
 step-on-spec =
