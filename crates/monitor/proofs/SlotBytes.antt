@@ -7,10 +7,8 @@ use lib.ListN.{length}
 use Rattle.registers.specs.declared.Cycles.{Cycles}
 use Rattle.registers.specs.declared.StackBytes.{StackBytes}
 use Rattle.commands.specs.declared.prefix.Header.{Header}
+use Rattle.registerbytes.proofs.RoundTrip.{halves}
 use Rattle.monitor.specs.Slot.{slotOf, headerIn, costIn, stackIn}
-
-halves : (w : ℕ) → w / 256 * 256 + w % 256 ≡ w
-halves w = omega arith
 
 long-halves : (w : ℕ) → w / 65536 * 65536 + w % 65536 ≡ w
 long-halves w = omega arith

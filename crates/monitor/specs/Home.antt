@@ -11,7 +11,7 @@ use Rattle.verdict.specs.Routine.{Certain}
 use Rattle.registerbytes.specs.Bytes.{packed, unpacked}
 use Rattle.registerbytes.specs.Calls.{called, runBytesOf}
 use Rattle.monitor.specs.Slot.{costIn, stackIn}
-use Rattle.monitor.specs.Routine.{Beginning, startBytesOf, filling, certifyBytesOf, startSlotOf}
+use Rattle.monitor.specs.Routine.{startBytesOf, filling, certifyBytesOf, startSlotOf}
 
 -- from the register bytes rs and the memory m the routine comes home; and so does C's run on them, whatever is lent as
 -- cycles c and place p: for every budget b that covers the way home it answers home, with the way's cycles, and the

@@ -1,4 +1,5 @@
-// A routine judged and started on the registers' bytes, and the number that a call answers.
+// A routine judged and started on the registers' bytes, and the number that a call answers. An inner module of the C
+// calls: where a length is required, `start_on` and `start_from` have tested it.
 ghost use mathlib.Core.List.{List};
 ghost use mathlib.Core.Path.{_≡_};
 ghost use Prim.Native.Nat.{ℕ};

@@ -1,4 +1,5 @@
-// The slot that a routine is judged into once, and started from again and again: 24 bytes, high byte first.
+// The slot that a routine is judged into once, and started from again and again: 24 bytes, high byte first. An inner
+// module of the C calls.
 ghost use mathlib.Core.Path.{_≡_};
 ghost use Prim.Native.Nat.{ℕ, _+_, _/_, _%_, _<_};
 ghost use lib.ListN.{length};

@@ -9,7 +9,8 @@ use Rattle.registers.specs.declared.Registers.{Registers}
 use Rattle.registerbytes.specs.Bytes.{packed, wordIn, unpacked}
 use Rattle.registerbytes.proofs.Elements.{all-elements}
 
-halves : (w : ℕ) → w / 256 * 256 + w % 256 ≡ w
+-- a word is its two bytes
+pub halves : (w : ℕ) → w / 256 * 256 + w % 256 ≡ w
 halves w = omega arith
 
 pub unpacked-packed : (r : Registers) → unpacked (packed r) ≡ r

@@ -20,7 +20,7 @@ use Rattle.commands.proofs.Digits.{bytes-drop}
 use Rattle.commands.proofs.Sound.{bounds}
 use Rattle.ticket.specs.declared.fields.Mark.{Mark}
 use Rattle.ticket.specs.declared.answer.Reading.{Reading}
-use Rattle.ticket.specs.Fields.{Fields, Outcome, read, refused, ticketOf, fieldsOf, readingOf}
+use Rattle.ticket.specs.Fields.{Fields, Outcome, read, refused, readingOf}
 use Rattle.ticket.specs.Read.{readOf}
 use Rattle.ticket.specs.Write.{commandsOf, encodeAll, bytesOf, checkOf, writeOf, outputOf}
 use Rattle.ticket.specs.RoundTrip.{AllFit, FitsFields, SameBytes}
