@@ -10,7 +10,8 @@ use lib.Arith.{mod-mul}
 use lib.Dec.{leb, ltb}
 use lib.Pow.{pow-pos}
 use Rattle.registers.proofs.Bits.{one≤, digit}
-use Rattle.registers.specs.Flags.{bit, one}
+use Rattle.registers.specs.Flags.{bit}
+use Rattle.lists.specs.Bit.{one}
 use Rattle.arithmetic.specs.Codes.{carry, borrow}
 
 -- what holds of a test's two outcomes holds of the test

@@ -5,7 +5,8 @@ use mathlib.Core.Bool.{Bool}
 use Prim.Native.Nat.{ℕ, _+_, _*_, _/_, _%_, _<_}
 use native.Mathlib.Omega.{arith}
 use Rattle.registers.proofs.Bits.{digit}
-use Rattle.registers.specs.Flags.{bit, one, flagsOf, byteOf}
+use Rattle.registers.specs.Flags.{bit, flagsOf, byteOf}
+use Rattle.lists.specs.Bit.{one}
 use Rattle.arithmetic.specs.Codes.{withNzvc, withHnzvc}
 
 module _ (f : ℕ) (l : f < 256) where

@@ -4,7 +4,8 @@ use Prim.Native.Nat.{ℕ, _+_, _-_, _*_, _/_, _%_}
 use mathlib.Core.Bool.{Bool, true, false, not}
 use lib.Dec.{eqb}
 use lib.Bits.{bitAnd, bitOr, bitXor}
-use Rattle.registers.specs.Flags.{bit, low, one, xor}
+use Rattle.registers.specs.Flags.{bit, low, xor}
+use Rattle.lists.specs.Bit.{one}
 use Rattle.registers.specs.declared.flags.Flags.{Flags}
 use Rattle.opcodes.specs.declared.instruction.Unary.{Unary}
 use Rattle.opcodes.specs.declared.instruction.Unary.the-variants.{Neg, Com, Lsr, Ror, Asr, Asl, Rol, Dec, Inc, Clr}

@@ -9,9 +9,9 @@ use crate::codes::overflow;
 use crate::codes::with_hnzvc;
 use crate::codes::with_nzv;
 use crate::codes::with_nzvc;
+use lists::bit::one;
 use opcodes::instruction::Binary;
 use opcodes::instruction::Unary;
-use registers::flags::one;
 
 pub struct ByteResult {
     pub value: u8,

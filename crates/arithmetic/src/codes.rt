@@ -2,7 +2,7 @@
 ghost use mathlib.Core.Path.{_≡_};
 ghost use Rattle.registers.specs.Flags.{flagsOf, byteOf};
 ghost use Rattle.arithmetic.specs.Codes.{withNzvc, withNzv, withHnzvc, withZ, withV, withC, withZvc, overflowBits};
-use registers::flags::one;
+use lists::bit::one;
 
 // S, X, H and I stay: they are the upper half of the byte.
 pub fn with_nzvc(f: u8, n: bool, z: bool, v: bool, c: bool) -> u8

@@ -5,7 +5,7 @@ ghost use Rattle.arithmetic.specs.Result.{packed8};
 ghost use Rattle.arithmetic.specs.Decimal.{daaOf};
 use crate::byte::ByteResult;
 use crate::byte::coded;
-use registers::flags::one;
+use lists::bit::one;
 
 pub fn daa(a: u8, f: u8) -> ByteResult
     ensures { λ r. ⌜ r ≡ packed8 (daaOf a (flagsOf f)) ⌝ }

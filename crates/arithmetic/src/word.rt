@@ -9,7 +9,7 @@ use crate::codes::overflow;
 use crate::codes::with_c;
 use crate::codes::with_nzv;
 use crate::codes::with_nzvc;
-use registers::word::down;
+use registers::word::wrapping_sub;
 
 pub struct WordResult {
     pub value: u16,
@@ -40,7 +40,7 @@ pub fn add16(x: u16, m: u16, f: u8) -> WordResult
 pub fn sub16(x: u16, m: u16, f: u8) -> WordResult
     ensures { λ r. ⌜ r ≡ packed16 (sub16Of x m (flagsOf f)) ⌝ }
 {
-    let r = down(x, m);
+    let r = wrapping_sub(x, m);
     let v = overflow(
         x / 32768 % 2 == 1,
         !(m / 32768 % 2 == 1),

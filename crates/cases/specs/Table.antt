@@ -12,8 +12,8 @@ use Rattle.stepper.specs.Answer.{Answer, done, refused, RunAnswer, home, spent}
 use Rattle.stepper.specs.Step.{stepOf}
 use Rattle.stepper.specs.Run.{runOf}
 use Rattle.ticket.specs.Read.{refusal}
-use Rattle.rules.specs.declared.Verdict.{Verdict}
-use Rattle.rules.specs.declared.Verdict.the-variants.{Accept, Refuse}
+use Rattle.answers.specs.declared.Verdict.{Verdict}
+use Rattle.answers.specs.declared.Verdict.the-variants.{Accept, Refuse}
 use Rattle.rules.specs.Checks.{verdictOf}
 
 -- zeros, with some bytes from $8000 on

@@ -5,7 +5,7 @@ use crate::print::stepped;
 use output::text;
 use registers::Data;
 use registers::Registers;
-use registers::word::up;
+use registers::word::wrapping_add;
 use stepper::run;
 use stepper::step;
 
@@ -41,7 +41,7 @@ fn one(name: &[u8], first: u8, second: u8, r: Registers) {
 // Bytes go to the addresses from `at` on.
 fn load(mem: &mut [u8], at: u16, bytes: &[u8]) {
     for i in 0..bytes.len() {
-        put(mem, up(at, (i % 65536) as u16), bytes[i]);
+        put(mem, wrapping_add(at, (i % 65536) as u16), bytes[i]);
     }
 }
 

@@ -12,13 +12,13 @@ use Rattle.commands.specs.Cause.{pastOf}
 use Rattle.ticket.specs.declared.fields.Mark.{Mark}
 use Rattle.ticket.specs.Fields.{Fields, blankMark}
 use Rattle.ticket.specs.Read.{refusal}
-use Rattle.rules.specs.declared.Verdict.{Verdict}
-use Rattle.rules.specs.declared.Verdict.the-variants.{Refuse}
+use Rattle.answers.specs.declared.Verdict.{Verdict}
+use Rattle.answers.specs.declared.Verdict.the-variants.{Refuse}
 use Rattle.rules.specs.Marks.{claimAt, imageFrom}
 use Rattle.rules.specs.Shape.{shapeOf, sizeOf}
 use Rattle.rules.specs.Checks.{firstOf, checksAt, checksOfMarks, wholeChecks, acceptOf, judgedOf}
-use Rattle.shapes.specs.declared.shape.Shape.{Shape}
-use Rattle.shapes.specs.Said.{shapeSaid}
+use Rattle.checks.specs.declared.shape.Shape.{Shape}
+use Rattle.checks.specs.Said.{shapeSaid}
 use Rattle.checks.specs.declared.cause.Marked.{Marked}
 use Rattle.checks.specs.Cause.{markedSaid, causeOf}
 use Rattle.checks.specs.Whole.{wholeOf}

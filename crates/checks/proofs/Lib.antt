@@ -6,3 +6,5 @@ pub mod WholeCause
 pub mod Judging
 pub mod Held
 pub mod Addresses
+pub mod ShapeFound
+pub mod ShapesApart

@@ -10,17 +10,17 @@ use Rattle.commands.specs.declared.command.Window.{Window}
 use Rattle.ticket.specs.declared.fields.Mark.{Mark}
 use Rattle.ticket.specs.Fields.{Fields}
 use Rattle.ticket.specs.Read.{refusal}
-use Rattle.rules.specs.declared.Verdict.{Verdict}
-use Rattle.rules.specs.declared.Verdict.the-variants.{Refuse}
+use Rattle.answers.specs.declared.Verdict.{Verdict}
+use Rattle.answers.specs.declared.Verdict.the-variants.{Refuse}
 use Rattle.rules.specs.Marks.{claimAt}
 use Rattle.rules.specs.Checks.{Check, firstOf, all, checksBy}
-use Rattle.shapes.specs.declared.shape.Next.{Next}
-use Rattle.shapes.specs.declared.shape.Next.the-variants.{One, Two}
-use Rattle.shapes.specs.declared.shape.Written.{Written}
-use Rattle.shapes.specs.declared.shape.Written.the-variants.{Nowhere, Byte, Word}
-use Rattle.shapes.specs.declared.shape.Shape.{Shape}
-use Rattle.shapes.specs.declared.shape.Shape.the-variants.{Ordinary, Call, Return, Forbidden, Nothing}
-use Rattle.shapes.specs.Said.{nextSaid, writtenSaid, shapeSaid}
+use Rattle.checks.specs.declared.shape.Next.{Next}
+use Rattle.checks.specs.declared.shape.Next.the-variants.{One, Two}
+use Rattle.checks.specs.declared.shape.Written.{Written}
+use Rattle.checks.specs.declared.shape.Written.the-variants.{Nowhere, Byte, Word}
+use Rattle.checks.specs.declared.shape.Shape.{Shape}
+use Rattle.checks.specs.declared.shape.Shape.the-variants.{Ordinary, Call, Return, Forbidden, Nothing}
+use Rattle.checks.specs.Said.{nextSaid, writtenSaid, shapeSaid}
 use Rattle.checks.specs.declared.cause.Marked.{Marked}
 use Rattle.checks.specs.declared.cause.Marked.the-variants.{Unmarked, At}
 use Rattle.checks.specs.Cause.{markedSaid, inData, causeOf}

@@ -4,15 +4,15 @@ use Prim.Native.Nat.{ℕ}
 use mathlib.Core.Bool.{Bool, true, cond, _&&_}
 use mathlib.Core.Option.{Option, none, some}
 use lib.Dec.{eqb, leb}
-use Rattle.registers.specs.Word.{plus}
+use Rattle.registers.specs.Word.{wrappingAdd}
 use Rattle.commands.specs.Cause.{holds}
 use Rattle.commands.specs.declared.command.Claim.{Claim}
 use Rattle.commands.specs.declared.command.Window.{Window}
 use Rattle.rules.specs.Checks.{depthAgrees, costCovers, needCovers, hasDepth, costCoversCall, needCoversTarget, needCoversAfter}
-use Rattle.shapes.specs.declared.shape.Written.{Written}
-use Rattle.shapes.specs.declared.shape.Written.the-variants.{Nowhere, Byte, Word}
-use Rattle.shapes.specs.declared.shape.Shape.{Shape}
-use Rattle.shapes.specs.declared.shape.Shape.the-variants.{Ordinary, Call, Return, Forbidden, Nothing}
+use Rattle.checks.specs.declared.shape.Written.{Written}
+use Rattle.checks.specs.declared.shape.Written.the-variants.{Nowhere, Byte, Word}
+use Rattle.checks.specs.declared.shape.Shape.{Shape}
+use Rattle.checks.specs.declared.shape.Shape.the-variants.{Ordinary, Call, Return, Forbidden, Nothing}
 use Rattle.checks.specs.declared.cause.Marked.{Marked}
 use Rattle.checks.specs.declared.cause.Marked.the-variants.{Unmarked, At}
 
@@ -24,7 +24,7 @@ markedSaid (At c) = some c
 abbrev pub inData : Window → Written → Bool
 inData w Nowhere = true
 inData w (Byte a) = holds w a
-inData w (Word a) = holds w a && holds w (plus a 1)
+inData w (Word a) = holds w a && holds w (wrappingAdd a 1)
 
 abbrev pub followsOf : Claim → ℕ → ℕ → ℕ → Claim → Claim → ℕ
 followsOf k pushed pulled cycles x y =

@@ -3,10 +3,10 @@
 use Prim.Native.Nat.{ℕ}
 use mathlib.Core.Bool.{Bool, true, false}
 use mathlib.Core.List.{List, [], _∷_}
-use Rattle.shapes.specs.declared.shape.Next.{Next}
-use Rattle.shapes.specs.declared.shape.Next.the-variants.{One, Two}
-use Rattle.shapes.specs.declared.shape.Shape.{Shape}
-use Rattle.shapes.specs.declared.shape.Shape.the-variants.{Ordinary, Call, Return, Forbidden, Nothing}
+use Rattle.checks.specs.declared.shape.Next.{Next}
+use Rattle.checks.specs.declared.shape.Next.the-variants.{One, Two}
+use Rattle.checks.specs.declared.shape.Shape.{Shape}
+use Rattle.checks.specs.declared.shape.Shape.the-variants.{Ordinary, Call, Return, Forbidden, Nothing}
 use Rattle.ticket.specs.declared.fields.Mark.{Mark}
 use Rattle.checks.specs.declared.cause.Marked.{Marked}
 use Rattle.checks.specs.declared.cause.Marked.the-variants.{Unmarked, At}

@@ -6,8 +6,8 @@ use lib.Dec.{eqb, leb}
 use Rattle.commands.specs.declared.command.Claim.{Claim}
 use Rattle.commands.specs.declared.prefix.Header.{Header}
 use Rattle.ticket.specs.Read.{refusal}
-use Rattle.rules.specs.declared.Verdict.{Verdict}
-use Rattle.rules.specs.declared.Verdict.the-variants.{Accept, Refuse}
+use Rattle.answers.specs.declared.Verdict.{Verdict}
+use Rattle.answers.specs.declared.Verdict.the-variants.{Accept, Refuse}
 use Rattle.checks.specs.declared.cause.Marked.{Marked}
 use Rattle.checks.specs.declared.cause.Marked.the-variants.{Unmarked, At}
 

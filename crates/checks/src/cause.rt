@@ -2,14 +2,14 @@
 ghost use mathlib.Core.Path.{_≡_};
 ghost use Rattle.rules.specs.Checks.{depthAgrees, costCovers, needCovers};
 ghost use Rattle.checks.specs.Cause.{inData, followsOf, ordinaryOf, calledOf, callOf, returnOf, causeOf};
+use crate::shape::Shape;
+use crate::shape::Written;
 use commands::command::Claim;
 use commands::command::Window;
 use commands::command::holds;
 use registers::Cycles;
 use registers::StackBytes;
-use registers::word::up;
-use shapes::shape::Shape;
-use shapes::shape::Written;
+use registers::word::wrapping_add;
 
 // The claim at an address, or none.
 pub enum Marked {
@@ -24,7 +24,7 @@ fn in_data(w: Window, x: Written) -> bool
     match x {
         Written::Nowhere => true,
         Written::Byte(a) => holds(w, a),
-        Written::Word(a) => holds(w, a) & holds(w, up(a, 1)),
+        Written::Word(a) => holds(w, a) & holds(w, wrapping_add(a, 1)),
     }
 }
 

@@ -15,12 +15,12 @@ use crate::find::find;
 use crate::sight::Sight;
 use crate::sight::look;
 use crate::whole::whole;
+use answers::Verdict;
+use answers::refuse;
 use commands::command::Window;
-use commands::command::refuse;
 use opcodes::table::actions;
 use opcodes::table::costs;
 use opcodes::table::modes;
-use rules::Verdict;
 use ticket::fields::Mark;
 use ticket::fields::Ticket;
 

@@ -8,15 +8,15 @@ ghost use Rattle.opcodes.specs.Numbers.{actionOf, modeOf};
 ghost use Rattle.commands.specs.Cause.{pastOf};
 ghost use Rattle.rules.specs.Marks.{imageFrom};
 ghost use Rattle.rules.specs.Shape.{shapeOf, sizeOf};
-ghost use Rattle.shapes.specs.Said.{shapeSaid};
+ghost use Rattle.checks.specs.Said.{shapeSaid};
 ghost use Rattle.checks.specs.Find.{Ascending, indexOf};
 ghost use Rattle.checks.specs.Sight.{firstIn, secondIn, firstNext, secondNext};
 use crate::find::find;
+use crate::image::shape_at;
+use crate::shape::Next;
+use crate::shape::Shape;
 use commands::command::Window;
 use commands::command::past;
-use shapes::image::shape_at;
-use shapes::shape::Next;
-use shapes::shape::Shape;
 
 // Whether the instruction stays inside the code window; and for its first and its second successor, which mark is theirs. Where there is one successor it stands
 // twice, and where no mark is theirs the number is that of all marks.

@@ -2,11 +2,11 @@
 ghost use mathlib.Core.Path.{_≡_};
 ghost use Rattle.checks.specs.Whole.{enteredOf, wholeOf};
 use crate::cause::Marked;
+use answers::Verdict;
+use answers::refuse;
 use commands::command::Claim;
-use commands::command::refuse;
 use commands::prefix::Header;
 use registers::StackBytes;
-use rules::Verdict;
 
 // With the claim at the entry.
 fn entered(h: Header, c: Claim) -> Verdict

@@ -9,7 +9,7 @@ use mathlib.Core.Bool.{Bool, true, false, cond, _||_, and-eq-true-iff}
 use lib.Dec.{eqb, ltb, leb}
 use borrow.Author.Tests.{ltb-true, leb-true, eqb-true, ne-eqb}
 use Rattle.commands.specs.Rows.{between}
-use Rattle.registers.specs.Flags.{one}
+use Rattle.lists.specs.Bit.{one}
 use Rattle.commands.specs.Prefix.{startOf, withWindow, stagedOf, markedOf, namedOf, afterOf, Sound}
 use Rattle.commands.specs.Cause.{rangesHold, causeOf}
 use Rattle.commands.specs.Admit.{admitOf, thenOf, SoundSoFar, stopped, sound}
@@ -18,7 +18,7 @@ use Rattle.commands.specs.declared.command.Kind.{Kind}
 use Rattle.commands.specs.declared.command.Kind.the-variants.{Code, Data, Stack}
 use Rattle.commands.specs.declared.command.Command.{Command}
 use Rattle.commands.specs.declared.command.Command.the-variants as Command
-use Rattle.commands.specs.declared.command.Refusal.{Refusal}
+use Rattle.answers.specs.declared.Refusal.{Refusal}
 use Rattle.commands.specs.declared.prefix.Header.{Header}
 use Rattle.commands.specs.declared.prefix.Prefix.{Prefix}
 use Rattle.commands.specs.declared.admit.Admitted.{Admitted}

@@ -5,7 +5,7 @@ use lib.Dec.{eqb}
 use Rattle.commands.specs.Cause.{causeOf}
 use Rattle.commands.specs.Prefix.{afterOf, Sound}
 use Rattle.commands.specs.declared.command.Command.{Command}
-use Rattle.commands.specs.declared.command.Refusal.{Refusal}
+use Rattle.answers.specs.declared.Refusal.{Refusal}
 use Rattle.commands.specs.declared.prefix.Prefix.{Prefix}
 use Rattle.commands.specs.declared.admit.Admitted.{Admitted}
 use Rattle.commands.specs.declared.admit.Admitted.the-variants.{Refused, Next}

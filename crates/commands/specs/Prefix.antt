@@ -3,7 +3,7 @@
 use Prim.Native.Nat.{ℕ, _+_, _*_, _≤_, _<_}
 use mathlib.Core.Path.{_≡_}
 use mathlib.Core.Bool.{true, false}
-use Rattle.registers.specs.Flags.{one}
+use Rattle.lists.specs.Bit.{one}
 use Rattle.registers.specs.declared.Cycles.{Cycles}
 use Rattle.commands.specs.declared.command.Window.{Window}
 use Rattle.commands.specs.declared.command.Kind.{Kind}

@@ -7,10 +7,10 @@ ghost use Rattle.commands.specs.Admit.{admitOf, thenOf, SoundSoFar};
 use crate::cause::cause;
 use crate::command::Command;
 use crate::command::Kind;
-use crate::command::Refusal;
 use crate::command::Window;
 use crate::prefix::Header;
 use crate::prefix::Prefix;
+use answers::Refusal;
 use registers::Cycles;
 
 pub enum Admitted {

@@ -52,15 +52,3 @@ pub enum Decoded {
     Cut, // no byte is left, or the operands are cut short
     Found(Command),
 }
-
-// Document 01's number of the cause, and its place: for a command, the offset of its first byte.
-pub struct Refusal {
-    pub number: u8,
-    pub place: u32,
-}
-
-pub fn refuse(number: u8, place: u32) -> Refusal
-    ensures { λ r. ⌜ r ≡ record { number = number; place = place } ⌝ }
-{
-    Refusal { number, place }
-}

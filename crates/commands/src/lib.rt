@@ -4,3 +4,6 @@ pub mod admit; // a command after those before it
 mod cause; // document 01's causes 3 to 7
 pub mod command; // the commands and what they hold
 pub mod prefix; // what the commands so far leave for the next
+pub mod decode; // a command of bytes
+pub mod encode; // the bytes of a command
+mod number; // numbers of two, four and eight bytes

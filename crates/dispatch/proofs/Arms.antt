@@ -3,10 +3,9 @@
 use mathlib.Core.Path.{_≡_, sym, subst, _∙_}
 use mathlib.Core.List.{List}
 use Prim.Native.Nat.{ℕ, _<_}
-use Rattle.registers.specs.Word.{plus}
+use Rattle.registers.specs.Word.{wrappingAdd, targetOf}
 use Rattle.registers.specs.declared.Registers.{Registers}
 use Rattle.memory.specs.Memory.{byteAt, wordAt}
-use Rattle.opcodes.specs.Form.{targetOf}
 use Rattle.opcodes.specs.Numbers.{actionOf}
 use Rattle.opcodes.specs.declared.instruction.Action.{Action}
 use Rattle.opcodes.specs.declared.instruction.Operand.{Operand}
@@ -42,11 +41,11 @@ module _ (at : ℕ) (r : Registers) (m : List ℕ) where
     pub modified : {q : Registers} {m′ : List ℕ} → ModifiesAt a at r m q m′ → (o : Operand) → Stands o r at × ByteThere o r m at → Executed (effectOf a o r m) q m m′
     modified t o s = t o (s .0) (s .1)
 
-    pub masked : (from : ℕ) {k : ℕ} {q : Registers} {m′ : List ℕ} → MasksAt a k at r m q m′ → k ≡ byteAt m (plus from 1)
+    pub masked : (from : ℕ) {k : ℕ} {q : Registers} {m′ : List ℕ} → MasksAt a k at r m q m′ → k ≡ byteAt m (wrappingAdd from 1)
         → (o : Operand) → Stands o r at × (ByteThere o r m at × MaskThere o m from) → Executed (effectOf a o r m) q m m′
     masked from t e o s = t o (s .0) (s .1 .0) (s .1 .1 ∙ sym e)
 
-    pub tested : (from : ℕ) {v k t : ℕ} {q : Registers} → GoesOnBits a v k t r q → v ≡ byteAt m at → v < 256 → k ≡ byteAt m (plus from 1)
-        → t ≡ targetOf (r .pc) (byteAt m (plus from 2))
+    pub tested : (from : ℕ) {v k t : ℕ} {q : Registers} → GoesOnBits a v k t r q → v ≡ byteAt m at → v < 256 → k ≡ byteAt m (wrappingAdd from 1)
+        → t ≡ targetOf (r .pc) (byteAt m (wrappingAdd from 2))
         → (o : Operand) → ByteThere o r m at × (MaskThere o m from × OffsetThere o r m from) → Executed (effectOf a o r m) q m m
     tested from g e b f h o s = g o m (s .0 (subst (λ (i : ℕ). i < 256) e b) ∙ sym e) (s .1 .0 ∙ sym f) (s .1 .1 ∙ sym h)

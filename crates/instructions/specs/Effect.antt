@@ -5,7 +5,7 @@ use Prim.Native.Nat.{ℕ}
 use mathlib.Core.Path.{_≡_}
 use mathlib.Core.Bool.{cond}
 use mathlib.Core.List.{List, [], _∷_}
-use Rattle.registers.specs.Word.{plus, less}
+use Rattle.registers.specs.Word.{wrappingAdd, wrappingSub}
 use Rattle.registers.specs.Registers.{withData, withPc, withSp, withPcSp}
 use Rattle.registers.specs.declared.Registers.{Registers}
 use Rattle.memory.specs.Memory.{wordAt, Store, store, wordStores, pushStores, applied}
@@ -30,16 +30,16 @@ unfoldable pub effectBy : Form → Registers → Registers → Outcome → List 
 effectBy Computes r q w m = effect q []
 effectBy (StoresByte p) r q w m = effect q (store (addressOf p r) (w .value) ∷ [])
 effectBy (StoresWord p) r q w m = effect q (wordStores (addressOf p r) (w .value))
-effectBy PushesByte r q w m = effect (withSp q (less (r .sp) 1)) (store (r .sp) (w .value) ∷ [])
-effectBy PushesWord r q w m = effect (withSp q (less (r .sp) 2)) (pushStores (r .sp) (w .value))
-effectBy PullsByte r q w m = effect (withSp q (plus (r .sp) 1)) []
-effectBy PullsWord r q w m = effect (withSp q (plus (r .sp) 2)) []
-effectBy Reserves r q w m = effect (withSp q (less (r .sp) 1)) []
-effectBy Releases r q w m = effect (withSp q (plus (r .sp) 1)) []
+effectBy PushesByte r q w m = effect (withSp q (wrappingSub (r .sp) 1)) (store (r .sp) (w .value) ∷ [])
+effectBy PushesWord r q w m = effect (withSp q (wrappingSub (r .sp) 2)) (pushStores (r .sp) (w .value))
+effectBy PullsByte r q w m = effect (withSp q (wrappingAdd (r .sp) 1)) []
+effectBy PullsWord r q w m = effect (withSp q (wrappingAdd (r .sp) 2)) []
+effectBy Reserves r q w m = effect (withSp q (wrappingSub (r .sp) 1)) []
+effectBy Releases r q w m = effect (withSp q (wrappingAdd (r .sp) 1)) []
 effectBy (Branches t) r q w m = effect (withPc q (cond (w .taken) t (r .pc))) []
 effectBy (Jumps p) r q w m = effect (withPc q (addressOf p r)) []
-effectBy (Calls p) r q w m = effect (withPcSp q (addressOf p r) (less (r .sp) 2)) (pushStores (r .sp) (r .pc))
-effectBy Returns r q w m = effect (withPcSp q (wordAt m (plus (r .sp) 1)) (plus (r .sp) 2)) []
+effectBy (Calls p) r q w m = effect (withPcSp q (addressOf p r) (wrappingSub (r .sp) 2)) (pushStores (r .sp) (r .pc))
+effectBy Returns r q w m = effect (withPcSp q (wordAt m (wrappingAdd (r .sp) 1)) (wrappingAdd (r .sp) 2)) []
 effectBy MovesSp r q w m = effect (withSp q (w .value)) []
 effectBy Interrupts r q w m = effect (interruptedOf r m) (stackedOf r)
 effectBy Resumes r q w m = effect (resumedOf r m) []

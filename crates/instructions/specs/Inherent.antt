@@ -4,7 +4,7 @@ use Prim.Native.Nat.{ℕ}
 use mathlib.Core.Bool.{Bool, true, false, _&&_}
 use lib.Dec.{eqb}
 use Rattle.registers.specs.Flags.{flagsOf, byteOf}
-use Rattle.registers.specs.Word.{plus, less}
+use Rattle.registers.specs.Word.{wrappingAdd, wrappingSub}
 use Rattle.registers.specs.Registers.{accumulatorD, withA, withB, withD, withX, withY, withFlags}
 use Rattle.registers.specs.declared.Data.{Data}
 use Rattle.registers.specs.declared.flags.Flags.{Flags}
@@ -62,10 +62,10 @@ inherentOf Lsrd sp d = toD d (lsrdOf (accumulatorD d) (codes d))
 inherentOf Asld sp d = toD d (asldOf (accumulatorD d) (codes d))
 inherentOf Tap sp d = withFlags d (replaced (d .a) (d .flags))
 inherentOf Tpa sp d = withA d (d .flags) (d .flags)
-inherentOf Inx sp d = withX d (plus (d .x) 1) (counted (plus (d .x) 1) (d .flags))
-inherentOf Dex sp d = withX d (less (d .x) 1) (counted (less (d .x) 1) (d .flags))
-inherentOf Iny sp d = withY d (plus (d .y) 1) (counted (plus (d .y) 1) (d .flags))
-inherentOf Dey sp d = withY d (less (d .y) 1) (counted (less (d .y) 1) (d .flags))
+inherentOf Inx sp d = withX d (wrappingAdd (d .x) 1) (counted (wrappingAdd (d .x) 1) (d .flags))
+inherentOf Dex sp d = withX d (wrappingSub (d .x) 1) (counted (wrappingSub (d .x) 1) (d .flags))
+inherentOf Iny sp d = withY d (wrappingAdd (d .y) 1) (counted (wrappingAdd (d .y) 1) (d .flags))
+inherentOf Dey sp d = withY d (wrappingSub (d .y) 1) (counted (wrappingSub (d .y) 1) (d .flags))
 inherentOf Clv sp d = withFlags d (withV (d .flags) false)
 inherentOf Sev sp d = withFlags d (withV (d .flags) true)
 inherentOf Clc sp d = withFlags d (withCarry (d .flags) false)
@@ -78,10 +78,10 @@ inherentOf Tab sp d = withB d (d .a) (moved (d .a) (d .flags))
 inherentOf Tba sp d = withA d (d .b) (moved (d .b) (d .flags))
 inherentOf Daa sp d = toA d (daaOf (d .a) (codes d))
 inherentOf Aba sp d = toA d (add8Of (d .a) (d .b) false (codes d))
-inherentOf Tsx sp d = withX d (plus sp 1) (d .flags)
-inherentOf Tsy sp d = withY d (plus sp 1) (d .flags)
-inherentOf Abx sp d = withX d (plus (d .x) (d .b)) (d .flags)
-inherentOf Aby sp d = withY d (plus (d .y) (d .b)) (d .flags)
+inherentOf Tsx sp d = withX d (wrappingAdd sp 1) (d .flags)
+inherentOf Tsy sp d = withY d (wrappingAdd sp 1) (d .flags)
+inherentOf Abx sp d = withX d (wrappingAdd (d .x) (d .b)) (d .flags)
+inherentOf Aby sp d = withY d (wrappingAdd (d .y) (d .b)) (d .flags)
 inherentOf Mul sp d = toD d (mulOf (d .a) (d .b) (codes d))
 inherentOf Xgdx sp d = withX (withD d (d .x) (d .flags)) (accumulatorD d) (d .flags)
 inherentOf Xgdy sp d = withY (withD d (d .y) (d .flags)) (accumulatorD d) (d .flags)

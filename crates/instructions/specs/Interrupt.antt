@@ -3,15 +3,15 @@
 use Prim.Native.Nat.{ℕ}
 use mathlib.Core.Bool.{true}
 use mathlib.Core.List.{List, [], _∷_, _++_}
-use Rattle.registers.specs.Word.{plus, less}
+use Rattle.registers.specs.Word.{wrappingAdd, wrappingSub}
 use Rattle.registers.specs.declared.Registers.{Registers}
 use Rattle.memory.specs.Memory.{byteAt, wordAt, Store, store, pushStores, applied}
 use Rattle.instructions.specs.Inherent.{withI, replaced}
 
 unfoldable pub stackedOf : Registers → List Store
 stackedOf r =
-    pushStores (r .sp) (r .pc) ++ pushStores (less (r .sp) 2) (r .y) ++ pushStores (less (r .sp) 4) (r .x)
-    ++ store (less (r .sp) 6) (r .a) ∷ store (less (r .sp) 7) (r .b) ∷ store (less (r .sp) 8) (r .flags) ∷ []
+    pushStores (r .sp) (r .pc) ++ pushStores (wrappingSub (r .sp) 2) (r .y) ++ pushStores (wrappingSub (r .sp) 4) (r .x)
+    ++ store (wrappingSub (r .sp) 6) (r .a) ∷ store (wrappingSub (r .sp) 7) (r .b) ∷ store (wrappingSub (r .sp) 8) (r .flags) ∷ []
 
 -- the vector is read after the stores. The flags that are stacked are those before I is set
 unfoldable pub interruptedOf : Registers → List ℕ → Registers
@@ -19,7 +19,7 @@ interruptedOf r m =
     record {
       x = r .x;
       y = r .y;
-      sp = less (r .sp) 9;
+      sp = wrappingSub (r .sp) 9;
       pc = wordAt (applied (stackedOf r) m) 0xfff6;
       a = r .a;
       b = r .b;
@@ -29,11 +29,11 @@ interruptedOf r m =
 unfoldable pub resumedOf : Registers → List ℕ → Registers
 resumedOf r m =
     record {
-      x = wordAt m (plus (r .sp) 4);
-      y = wordAt m (plus (r .sp) 6);
-      sp = plus (r .sp) 9;
-      pc = wordAt m (plus (r .sp) 8);
-      a = byteAt m (plus (r .sp) 3);
-      b = byteAt m (plus (r .sp) 2);
-      flags = replaced (byteAt m (plus (r .sp) 1)) (r .flags);
+      x = wordAt m (wrappingAdd (r .sp) 4);
+      y = wordAt m (wrappingAdd (r .sp) 6);
+      sp = wrappingAdd (r .sp) 9;
+      pc = wordAt m (wrappingAdd (r .sp) 8);
+      a = byteAt m (wrappingAdd (r .sp) 3);
+      b = byteAt m (wrappingAdd (r .sp) 2);
+      flags = replaced (byteAt m (wrappingAdd (r .sp) 1)) (r .flags);
     }

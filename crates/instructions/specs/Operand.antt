@@ -2,7 +2,7 @@
 -- Assumes nothing.
 use Prim.Native.Nat.{ℕ, _%_}
 use mathlib.Core.List.{List}
-use Rattle.registers.specs.Word.{plus}
+use Rattle.registers.specs.Word.{wrappingAdd}
 use Rattle.registers.specs.declared.Registers.{Registers}
 use Rattle.memory.specs.Memory.{byteAt, wordAt}
 use Rattle.opcodes.specs.Form.{addressIn}
@@ -16,8 +16,8 @@ use Rattle.opcodes.specs.declared.instruction.Operand.the-variants as Operand
 -- an index offset is unsigned
 unfoldable pub addressOf : Address → Registers → ℕ
 addressOf (Fixed a) r = a
-addressOf (IndexedX d) r = plus (r .x) d
-addressOf (IndexedY d) r = plus (r .y) d
+addressOf (IndexedX d) r = wrappingAdd (r .x) d
+addressOf (IndexedY d) r = wrappingAdd (r .y) d
 
 -- the address that an operand names. PC stands past the instruction
 unfoldable pub operandAddress : Operand → Registers → ℕ
@@ -96,5 +96,5 @@ unfoldable pub inputOf : Reads → Operand → Registers → List ℕ → ℕ
 inputOf nothing o r m = 0
 inputOf operandByte o r m = byteOperand o r m
 inputOf operandWord o r m = wordOperand o r m
-inputOf pulledByte o r m = byteAt m (plus (r .sp) 1)
-inputOf pulledWord o r m = wordAt m (plus (r .sp) 1)
+inputOf pulledByte o r m = byteAt m (wrappingAdd (r .sp) 1)
+inputOf pulledWord o r m = wordAt m (wrappingAdd (r .sp) 1)

@@ -6,7 +6,7 @@ use mathlib.Core.Bool.{Bool, false}
 use lib.Dec.{eqb}
 use lib.Bits.{bitAnd}
 use Rattle.registers.specs.Flags.{byteOf}
-use Rattle.registers.specs.Word.{less}
+use Rattle.registers.specs.Word.{wrappingSub}
 use Rattle.registers.specs.Registers.{dataOf, accumulatorD, withA, withB, withD, withX, withY, withFlags}
 use Rattle.registers.specs.declared.Data.{Data}
 use Rattle.registers.specs.declared.Registers.{Registers}
@@ -121,7 +121,7 @@ compute (PullByte c) k v sp d = computes (withAccumulator c d v (d .flags))
 compute (PullWord i) k v sp d = computes (withIndex i d v)
 compute Des k v sp d = computes d
 compute Ins k v sp d = computes d
-compute (SetStack i) k v sp d = gives (less (indexOf i d) 1) d
+compute (SetStack i) k v sp d = gives (wrappingSub (indexOf i d) 1) d
 compute Swi k v sp d = computes d
 compute Rti k v sp d = computes d
 compute Wai k v sp d = computes d

@@ -3,11 +3,11 @@
 use Prim.Native.Nat.{ℕ, _<_}
 use mathlib.Core.Path.{_≡_}
 use mathlib.Core.List.{List}
-use Rattle.registers.specs.Word.{plus}
+use Rattle.registers.specs.Word.{wrappingAdd, targetOf}
 use Rattle.registers.specs.declared.Registers.{Registers}
 use Rattle.memory.specs.Memory.{byteAt, wordAt}
 use Rattle.opcodes.specs.Decode.{operandOf}
-use Rattle.opcodes.specs.Form.{targetOf, targetIn}
+use Rattle.opcodes.specs.Form.{targetIn}
 use Rattle.opcodes.specs.declared.instruction.Action.{Action}
 use Rattle.opcodes.specs.declared.instruction.Action.the-variants.{Inherent, Unary, TstAccumulator, Binary, TstMemory, LoadWord, Addd, Subd, CompareWord, StoreByte, StoreWord, Modify, Bset, Bclr, Brset, Brclr, Branch, Jmp, Call, Rts, PushByte, PushWord, PullByte, PullWord, Des, Ins, SetStack, Swi, Rti, Wai, Stop, Test}
 use Rattle.opcodes.specs.declared.instruction.Mode.{Mode}
@@ -18,7 +18,7 @@ use Rattle.instructions.specs.Effect.{effectOf, Executed}
 
 -- the operand of a mode, whose bytes start at an address
 abbrev pub operandFrom : Mode → ℕ → List ℕ → Operand
-operandFrom k from m = operandOf k (byteAt m from) (byteAt m (plus from 1)) (byteAt m (plus from 2))
+operandFrom k from m = operandOf k (byteAt m from) (byteAt m (wrappingAdd from 1)) (byteAt m (wrappingAdd from 2))
 
 -- where it stands: an immediate operand at its own bytes
 unfoldable pub addressAt : Mode → ℕ → Registers → List ℕ → ℕ
@@ -27,15 +27,15 @@ addressAt Mode.Immediate8 from r m = from
 addressAt Mode.Immediate16 from r m = from
 addressAt Mode.Direct from r m = byteAt m from
 addressAt Mode.Extended from r m = wordAt m from
-addressAt Mode.IndexedX from r m = plus (r .x) (byteAt m from)
-addressAt Mode.IndexedY from r m = plus (r .y) (byteAt m from)
+addressAt Mode.IndexedX from r m = wrappingAdd (r .x) (byteAt m from)
+addressAt Mode.IndexedY from r m = wrappingAdd (r .y) (byteAt m from)
 addressAt Mode.Relative from r m = targetOf (r .pc) (byteAt m from)
 addressAt Mode.MaskDirect from r m = byteAt m from
-addressAt Mode.MaskX from r m = plus (r .x) (byteAt m from)
-addressAt Mode.MaskY from r m = plus (r .y) (byteAt m from)
+addressAt Mode.MaskX from r m = wrappingAdd (r .x) (byteAt m from)
+addressAt Mode.MaskY from r m = wrappingAdd (r .y) (byteAt m from)
 addressAt Mode.MaskBranchDirect from r m = byteAt m from
-addressAt Mode.MaskBranchX from r m = plus (r .x) (byteAt m from)
-addressAt Mode.MaskBranchY from r m = plus (r .y) (byteAt m from)
+addressAt Mode.MaskBranchX from r m = wrappingAdd (r .x) (byteAt m from)
+addressAt Mode.MaskBranchY from r m = wrappingAdd (r .y) (byteAt m from)
 
 -- ---- what an action takes of its operand stands at an address
 
@@ -49,10 +49,10 @@ abbrev pub Stands : Operand → Registers → ℕ → Type 0
 Stands o r at = operandAddress o r ≡ at
 
 abbrev pub MaskThere : Operand → List ℕ → ℕ → Type 0
-MaskThere o m from = maskOf o ≡ byteAt m (plus from 1)
+MaskThere o m from = maskOf o ≡ byteAt m (wrappingAdd from 1)
 
 abbrev pub OffsetThere : Operand → Registers → List ℕ → ℕ → Type 0
-OffsetThere o r m from = targetIn o (r .pc) ≡ targetOf (r .pc) (byteAt m (plus from 2))
+OffsetThere o r m from = targetIn o (r .pc) ≡ targetOf (r .pc) (byteAt m (wrappingAdd from 2))
 
 unfoldable pub Sited : Action → Operand → Registers → List ℕ → ℕ → ℕ → Type 0
 Sited (Inherent i) o r m at from = Unit {0}

@@ -20,8 +20,8 @@ use arithmetic::word::mul;
 use opcodes::instruction::Inherent;
 use registers::Registers;
 use registers::flags::Flags;
-use registers::word::down;
-use registers::word::up;
+use registers::word::wrapping_add;
+use registers::word::wrapping_sub;
 
 fn to_a(r: Registers, w: ByteResult) -> Registers
     ensures { λ q. ⌜ q ≡ withData r (withA (dataOf r) (w .value) (w .flags)) ⌝ }
@@ -95,10 +95,10 @@ pub fn inherent(i: Inherent, r: Registers) -> Registers
         Inherent::Asld => to_d(r, asld(r.d(), f)),
         Inherent::Tap => r.with_flags(replaced(r.a, f)),
         Inherent::Tpa => r.with_a(f, f),
-        Inherent::Inx => r.with_x(up(r.x, 1), with_z(f, up(r.x, 1) == 0)),
-        Inherent::Dex => r.with_x(down(r.x, 1), with_z(f, down(r.x, 1) == 0)),
-        Inherent::Iny => r.with_y(up(r.y, 1), with_z(f, up(r.y, 1) == 0)),
-        Inherent::Dey => r.with_y(down(r.y, 1), with_z(f, down(r.y, 1) == 0)),
+        Inherent::Inx => r.with_x(wrapping_add(r.x, 1), with_z(f, wrapping_add(r.x, 1) == 0)),
+        Inherent::Dex => r.with_x(wrapping_sub(r.x, 1), with_z(f, wrapping_sub(r.x, 1) == 0)),
+        Inherent::Iny => r.with_y(wrapping_add(r.y, 1), with_z(f, wrapping_add(r.y, 1) == 0)),
+        Inherent::Dey => r.with_y(wrapping_sub(r.y, 1), with_z(f, wrapping_sub(r.y, 1) == 0)),
         Inherent::Clv => r.with_flags(with_v(f, false)),
         Inherent::Sev => r.with_flags(with_v(f, true)),
         Inherent::Clc => r.with_flags(with_c(f, false)),
@@ -111,10 +111,10 @@ pub fn inherent(i: Inherent, r: Registers) -> Registers
         Inherent::Tba => r.with_a(r.b, logic8(r.b, f)),
         Inherent::Daa => to_a(r, daa(r.a, f)),
         Inherent::Aba => to_a(r, add8(r.a, r.b, false, f)),
-        Inherent::Tsx => r.with_x(up(r.sp, 1), f),
-        Inherent::Tsy => r.with_y(up(r.sp, 1), f),
-        Inherent::Abx => r.with_x(up(r.x, r.b as u16), f),
-        Inherent::Aby => r.with_y(up(r.y, r.b as u16), f),
+        Inherent::Tsx => r.with_x(wrapping_add(r.sp, 1), f),
+        Inherent::Tsy => r.with_y(wrapping_add(r.sp, 1), f),
+        Inherent::Abx => r.with_x(wrapping_add(r.x, r.b as u16), f),
+        Inherent::Aby => r.with_y(wrapping_add(r.y, r.b as u16), f),
         Inherent::Mul => to_d(r, mul(r.a, r.b, f)),
         Inherent::Xgdx => r.with_d(r.x, f).with_x(r.d(), f),
         Inherent::Xgdy => r.with_d(r.y, f).with_y(r.d(), f),

@@ -1,7 +1,7 @@
 // SWI and RTI: all the registers onto the stack, and back.
 ghost use mathlib.Core.Path.{_≡_};
 ghost use lib.ListN.{length};
-ghost use Rattle.registers.specs.Word.{less};
+ghost use Rattle.registers.specs.Word.{wrappingSub};
 ghost use Rattle.memory.specs.Memory.{withPushed, applied};
 ghost use Rattle.instructions.specs.Interrupt.{stackedOf, interruptedOf, resumedOf};
 use crate::inherent::replaced;
@@ -11,17 +11,17 @@ use memory::push_word;
 use memory::put_byte;
 use memory::word_at;
 use registers::Registers;
-use registers::word::down;
-use registers::word::up;
+use registers::word::wrapping_add;
+use registers::word::wrapping_sub;
 
 // PC, Y and X: the first six of the nine bytes.
 fn stack_words(r: Registers, mem: &mut [u8])
     requires { ⌜ length (now mem) ≡ 65536 ⌝ }
-    ensures { λ _. ⌜ (now (mem .exit) ≡ withPushed (withPushed (withPushed (now (mem .entry)) (r .sp) (r .pc)) (less (r .sp) 2) (r .y)) (less (r .sp) 4) (r .x)) × (length (now (mem .exit)) ≡ 65536) ⌝ }
+    ensures { λ _. ⌜ (now (mem .exit) ≡ withPushed (withPushed (withPushed (now (mem .entry)) (r .sp) (r .pc)) (wrappingSub (r .sp) 2) (r .y)) (wrappingSub (r .sp) 4) (r .x)) × (length (now (mem .exit)) ≡ 65536) ⌝ }
 {
     push_word(mem, r.sp, r.pc);
-    push_word(mem, down(r.sp, 2), r.y);
-    push_word(mem, down(r.sp, 4), r.x);
+    push_word(mem, wrapping_sub(r.sp, 2), r.y);
+    push_word(mem, wrapping_sub(r.sp, 4), r.x);
 }
 
 fn stack_all(r: Registers, mem: &mut [u8])
@@ -29,9 +29,9 @@ fn stack_all(r: Registers, mem: &mut [u8])
     ensures { λ _. ⌜ (now (mem .exit) ≡ applied (stackedOf r) (now (mem .entry))) × (length (now (mem .exit)) ≡ 65536) ⌝ }
 {
     stack_words(r, mem);
-    put_byte(mem, down(r.sp, 6), r.a);
-    put_byte(mem, down(r.sp, 7), r.b);
-    put_byte(mem, down(r.sp, 8), r.flags);
+    put_byte(mem, wrapping_sub(r.sp, 6), r.a);
+    put_byte(mem, wrapping_sub(r.sp, 7), r.b);
+    put_byte(mem, wrapping_sub(r.sp, 8), r.flags);
 }
 
 pub fn interrupt(r: Registers, mem: &mut [u8]) -> Registers
@@ -42,7 +42,7 @@ pub fn interrupt(r: Registers, mem: &mut [u8]) -> Registers
     Registers {
         x: r.x,
         y: r.y,
-        sp: down(r.sp, 9),
+        sp: wrapping_sub(r.sp, 9),
         pc: word_at(mem, 0xfff6),
         a: r.a,
         b: r.b,
@@ -55,12 +55,12 @@ pub fn resume(r: Registers, mem: &[u8]) -> Registers
     ensures { λ q. ⌜ q ≡ resumedOf r (now (mem .entry)) ⌝ }
 {
     Registers {
-        x: word_at(mem, up(r.sp, 4)),
-        y: word_at(mem, up(r.sp, 6)),
-        sp: up(r.sp, 9),
-        pc: word_at(mem, up(r.sp, 8)),
-        a: byte_at(mem, up(r.sp, 3)),
-        b: byte_at(mem, up(r.sp, 2)),
-        flags: replaced(byte_at(mem, up(r.sp, 1)), r.flags),
+        x: word_at(mem, wrapping_add(r.sp, 4)),
+        y: word_at(mem, wrapping_add(r.sp, 6)),
+        sp: wrapping_add(r.sp, 9),
+        pc: word_at(mem, wrapping_add(r.sp, 8)),
+        a: byte_at(mem, wrapping_add(r.sp, 3)),
+        b: byte_at(mem, wrapping_add(r.sp, 2)),
+        flags: replaced(byte_at(mem, wrapping_add(r.sp, 1)), r.flags),
     }
 }

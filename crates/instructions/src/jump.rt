@@ -10,7 +10,7 @@ use crate::compute::none_set;
 use memory::push_word;
 use opcodes::condition::holds;
 use registers::Registers;
-use registers::word::down;
+use registers::word::wrapping_sub;
 
 // On to the target of a branch that is taken.
 fn branch_if(taken: bool, t: u16, r: Registers) -> Registers
@@ -53,5 +53,5 @@ pub fn call(at: u16, r: Registers, mem: &mut [u8]) -> Registers
     ensures { λ q. ⌜ StoresAt Action.Call at r (now (mem .entry)) q (now (mem .exit)) ⌝ }
 {
     push_word(mem, r.sp, r.pc);
-    r.with_pc_sp(at, down(r.sp, 2))
+    r.with_pc_sp(at, wrapping_sub(r.sp, 2))
 }

@@ -1,33 +1,22 @@
 // Where an operand stands, and what a bit instruction has besides.
 ghost use mathlib.Core.Path.{_≡_};
 ghost use lib.ListN.{length};
-ghost use Rattle.registers.specs.Word.{plus};
+ghost use Rattle.registers.specs.Word.{wrappingAdd, targetOf};
 ghost use Rattle.memory.specs.Memory.{byteAt};
 ghost use Rattle.opcodes.specs.Numbers.{modeOf};
-ghost use Rattle.opcodes.specs.Form.{targetOf};
 ghost use Rattle.instructions.specs.Sited.{addressAt};
 use memory::byte_at;
 use memory::word_at;
 use registers::Registers;
-use registers::word::up;
-
-// Where a branch by a signed offset goes.
-pub fn target(next: u16, d: u8) -> u16
-    ensures { λ q. ⌜ q ≡ targetOf next d ⌝ }
-{
-    if d < 128 {
-        up(next, d as u16)
-    } else {
-        up(next, (d as u16) + 0xff00)
-    }
-}
+use registers::word::target;
+use registers::word::wrapping_add;
 
 // Past an index register by the unsigned offset that stands at `from`.
 fn indexed(index: u16, from: u16, mem: &[u8]) -> u16
     requires { ⌜ length (now mem) ≡ 65536 ⌝ }
-    ensures { λ q. ⌜ q ≡ plus index (byteAt (now (mem .entry)) from) ⌝ }
+    ensures { λ q. ⌜ q ≡ wrappingAdd index (byteAt (now (mem .entry)) from) ⌝ }
 {
-    up(index, byte_at(mem, from) as u16)
+    wrapping_add(index, byte_at(mem, from) as u16)
 }
 
 // The address of an operand of mode k, whose bytes start at `from`; PC stands past the instruction. An immediate operand stands there itself.
@@ -57,15 +46,15 @@ pub fn address(k: u8, from: u16, r: Registers, mem: &[u8]) -> u16
 // The mask of a bit instruction stands after the operand's first byte.
 pub fn mask(from: u16, mem: &[u8]) -> u8
     requires { ⌜ length (now mem) ≡ 65536 ⌝ }
-    ensures { λ q. ⌜ q ≡ byteAt (now (mem .entry)) (plus from 1) ⌝ }
+    ensures { λ q. ⌜ q ≡ byteAt (now (mem .entry)) (wrappingAdd from 1) ⌝ }
 {
-    byte_at(mem, up(from, 1))
+    byte_at(mem, wrapping_add(from, 1))
 }
 
 // The offset of BRSET and BRCLR stands after the mask.
 pub fn bit_target(from: u16, next: u16, mem: &[u8]) -> u16
     requires { ⌜ length (now mem) ≡ 65536 ⌝ }
-    ensures { λ q. ⌜ q ≡ targetOf next (byteAt (now (mem .entry)) (plus from 2)) ⌝ }
+    ensures { λ q. ⌜ q ≡ targetOf next (byteAt (now (mem .entry)) (wrappingAdd from 2)) ⌝ }
 {
-    target(next, byte_at(mem, up(from, 2)))
+    target(next, byte_at(mem, wrapping_add(from, 2)))
 }

@@ -13,15 +13,15 @@ use memory::word_at;
 use opcodes::instruction::Accumulator;
 use opcodes::instruction::Index;
 use registers::Registers;
-use registers::word::down;
-use registers::word::up;
+use registers::word::wrapping_add;
+use registers::word::wrapping_sub;
 
 pub fn push_byte(c: Accumulator, r: Registers, mem: &mut [u8]) -> Registers
     requires { ⌜ length (now mem) ≡ 65536 ⌝ }
     ensures { λ q. ⌜ Does (Action.PushByte c) r (now (mem .entry)) q (now (mem .exit)) ⌝ }
 {
     put_byte(mem, r.sp, accumulator(c, r));
-    r.with_sp(down(r.sp, 1))
+    r.with_sp(wrapping_sub(r.sp, 1))
 }
 
 pub fn push_word(i: Index, r: Registers, mem: &mut [u8]) -> Registers
@@ -29,14 +29,14 @@ pub fn push_word(i: Index, r: Registers, mem: &mut [u8]) -> Registers
     ensures { λ q. ⌜ Does (Action.PushWord i) r (now (mem .entry)) q (now (mem .exit)) ⌝ }
 {
     memory::push_word(mem, r.sp, index(i, r));
-    r.with_sp(down(r.sp, 2))
+    r.with_sp(wrapping_sub(r.sp, 2))
 }
 
 pub fn pull_byte(c: Accumulator, r: Registers, mem: &[u8]) -> Registers
     requires { ⌜ length (now mem) ≡ 65536 ⌝ }
     ensures { λ q. ⌜ Does (Action.PullByte c) r (now (mem .entry)) q (now (mem .entry)) ⌝ }
 {
-    let s = up(r.sp, 1);
+    let s = wrapping_add(r.sp, 1);
     let v = byte_at(mem, s);
     with_accumulator(c, r, v, r.flags).with_sp(s)
 }
@@ -45,29 +45,29 @@ pub fn pull_word(i: Index, r: Registers, mem: &[u8]) -> Registers
     requires { ⌜ length (now mem) ≡ 65536 ⌝ }
     ensures { λ q. ⌜ Does (Action.PullWord i) r (now (mem .entry)) q (now (mem .entry)) ⌝ }
 {
-    let v = word_at(mem, up(r.sp, 1));
-    with_index(i, r, v).with_sp(up(r.sp, 2))
+    let v = word_at(mem, wrapping_add(r.sp, 1));
+    with_index(i, r, v).with_sp(wrapping_add(r.sp, 2))
 }
 
 // DES.
 pub fn reserve(r: Registers) -> Registers
     ensures { λ q. ⌜ Leaves Action.Des r q ⌝ }
 {
-    r.with_sp(down(r.sp, 1))
+    r.with_sp(wrapping_sub(r.sp, 1))
 }
 
 // INS.
 pub fn release(r: Registers) -> Registers
     ensures { λ q. ⌜ Leaves Action.Ins r q ⌝ }
 {
-    r.with_sp(up(r.sp, 1))
+    r.with_sp(wrapping_add(r.sp, 1))
 }
 
 // TXS, TYS.
 pub fn set_stack(i: Index, r: Registers) -> Registers
     ensures { λ q. ⌜ Leaves (Action.SetStack i) r q ⌝ }
 {
-    r.with_sp(down(index(i, r), 1))
+    r.with_sp(wrapping_sub(index(i, r), 1))
 }
 
 // RTS.
@@ -75,5 +75,5 @@ pub fn return_from(r: Registers, mem: &[u8]) -> Registers
     requires { ⌜ length (now mem) ≡ 65536 ⌝ }
     ensures { λ q. ⌜ Does Action.Rts r (now (mem .entry)) q (now (mem .entry)) ⌝ }
 {
-    r.with_pc_sp(word_at(mem, up(r.sp, 1)), up(r.sp, 2))
+    r.with_pc_sp(word_at(mem, wrapping_add(r.sp, 1)), wrapping_add(r.sp, 2))
 }

@@ -4,7 +4,7 @@ use Prim.Native.Nat.{ℕ, zero, suc, _+_, _-_}
 use mathlib.Core.Bool.{Bool, true, false, cond}
 use mathlib.Core.List.{List}
 use lib.Dec.{eqb, ltb}
-use Rattle.registers.specs.Word.{less}
+use Rattle.registers.specs.Word.{wrappingSub}
 use Rattle.registers.specs.declared.Registers.{Registers}
 use Rattle.stepper.specs.Answer.{Answer, done, refused}
 use Rattle.stepper.specs.Step.{stepOf}
@@ -73,4 +73,4 @@ lookOf r m b = lookFrom b (beginOf r b) m
 abbrev pub measuredOf : Registers → List ℕ → ℕ → Claim
 measuredOf r m b =
     let l = lookOf r m b in
-    record { cost = record { 0 = b - l .left }; depth = record { 0 = less (less (l .regs .sp) 2) (r .sp) }; need = record { 0 = less (r .sp) (l .lowest) } }
+    record { cost = record { 0 = b - l .left }; depth = record { 0 = wrappingSub (wrappingSub (l .regs .sp) 2) (r .sp) }; need = record { 0 = wrappingSub (r .sp) (l .lowest) } }

@@ -6,17 +6,17 @@ ghost use Rattle.opcodes.specs.Tables.{costAt};
 ghost use Rattle.opcodes.specs.Decode.{instructionOf};
 ghost use Rattle.rules.specs.Trace.{kindBy, kindIn, kindOf};
 ghost use Rattle.measure.specs.Look.{kindSaid};
-use decoder::decode;
 use memory::byte_at;
 use opcodes::decode::Found;
 use opcodes::decode::found_of;
+use opcodes::decoder::decode;
 use opcodes::form::Form;
+use opcodes::form::form_of;
 use opcodes::instruction::Decoded;
 use opcodes::table::actions;
 use opcodes::table::costs;
 use opcodes::table::modes;
-use registers::word::up;
-use shapes::form::form_of;
+use registers::word::wrapping_add;
 
 pub enum Kind {
     // JSR and BSR
@@ -58,7 +58,7 @@ fn kind_found(place: usize, e: u32, u: u8, v: u8, w: u8, pc: u16) -> Kind
 {
     let ta = actions();
     let tm = modes();
-    let after = up(pc, (e / 256) as u16);
+    let after = wrapping_add(pc, (e / 256) as u16);
     match decode(place, u, v, w, &ta, &tm) {
         Decoded::Instruction(a, o) => kind_by(form_of(a, o, after)),
         Decoded::Nothing => Kind::Plain,
@@ -71,12 +71,12 @@ pub fn kind_at(mem: &[u8], pc: u16) -> Kind
     ensures { λ r. ⌜ kindSaid r ≡ kindOf (now (mem .entry)) pc ⌝ }
 {
     let tc = costs();
-    match found_of(byte_at(mem, pc), byte_at(mem, up(pc, 1)), &tc) {
+    match found_of(byte_at(mem, pc), byte_at(mem, wrapping_add(pc, 1)), &tc) {
         Found::Nothing => Kind::Plain,
         Found::At(place, n, e) => {
-            let u = byte_at(mem, up(pc, n));
-            let v = byte_at(mem, up(pc, n + 1));
-            let w = byte_at(mem, up(pc, n + 2));
+            let u = byte_at(mem, wrapping_add(pc, n));
+            let v = byte_at(mem, wrapping_add(pc, n + 1));
+            let w = byte_at(mem, wrapping_add(pc, n + 2));
             kind_found(place, e, u, v, w, pc)
         }
     }

@@ -10,7 +10,7 @@ use commands::command::Claim;
 use registers::Cycles;
 use registers::Registers;
 use registers::StackBytes;
-use registers::word::down;
+use registers::word::wrapping_sub;
 use stepper::answer::Stepped;
 use stepper::step;
 
@@ -130,7 +130,7 @@ pub fn measure(r: Registers, mem: [u8; 65536], budget: u32) -> Claim
     let end = l.regs.sp;
     Claim {
         cost: Cycles(budget - l.left),
-        depth: StackBytes(down(down(end, 2), r.sp)),
-        need: StackBytes(down(r.sp, l.lowest)),
+        depth: StackBytes(wrapping_sub(wrapping_sub(end, 2), r.sp)),
+        need: StackBytes(wrapping_sub(r.sp, l.lowest)),
     }
 }

@@ -2,8 +2,8 @@
 ghost use mathlib.Core.Path.{_≡_};
 ghost use lib.ListN.{length};
 ghost use Rattle.memory.specs.Memory.{byteAt, wordAt, withByte, withWord, withPushed};
-use registers::word::down;
-use registers::word::up;
+use registers::word::wrapping_add;
+use registers::word::wrapping_sub;
 
 pub fn byte_at(mem: &[u8], at: u16) -> u8
     requires { ⌜ length (now mem) ≡ 65536 ⌝ }
@@ -19,7 +19,7 @@ pub fn word_at(mem: &[u8], at: u16) -> u16
     ensures { λ r. ⌜ r ≡ wordAt (now (mem .entry)) at ⌝ }
 {
     let h = byte_at(mem, at) as u16;
-    let l = byte_at(mem, up(at, 1)) as u16;
+    let l = byte_at(mem, wrapping_add(at, 1)) as u16;
     h * 256 + l
 }
 
@@ -37,7 +37,7 @@ pub fn put_word(mem: &mut [u8], at: u16, v: u16)
     ensures { λ _. ⌜ (now (mem .exit) ≡ withWord (now (mem .entry)) at v) × (length (now (mem .exit)) ≡ 65536) ⌝ }
 {
     put_byte(mem, at, (v / 256) as u8);
-    put_byte(mem, up(at, 1), (v % 256) as u8);
+    put_byte(mem, wrapping_add(at, 1), (v % 256) as u8);
 }
 
 // A 16-bit push: the low byte at sp, then the high byte below it.
@@ -46,5 +46,5 @@ pub fn push_word(mem: &mut [u8], sp: u16, v: u16)
     ensures { λ _. ⌜ (now (mem .exit) ≡ withPushed (now (mem .entry)) sp v) × (length (now (mem .exit)) ≡ 65536) ⌝ }
 {
     put_byte(mem, sp, (v % 256) as u8);
-    put_byte(mem, down(sp, 1), (v / 256) as u8);
+    put_byte(mem, wrapping_sub(sp, 1), (v / 256) as u8);
 }

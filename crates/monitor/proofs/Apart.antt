@@ -8,15 +8,15 @@ use mathlib.Core.List.{List}
 use borrow.Author.Tests.{ne-eqb}
 use lib.Dec.{eqb}
 use Rattle.registers.specs.declared.Registers.{Registers}
-use Rattle.commands.specs.declared.command.Refusal.{Refusal}
-use Rattle.rules.specs.declared.Verdict.{Verdict}
-use Rattle.rules.specs.declared.Verdict.the-variants.{Accept, Refuse}
+use Rattle.answers.specs.declared.Refusal.{Refusal}
+use Rattle.answers.specs.declared.Verdict.{Verdict}
+use Rattle.answers.specs.declared.Verdict.the-variants.{Accept, Refuse}
 use Rattle.verdict.specs.declared.Admission.{Admission}
 use Rattle.verdict.specs.declared.Admission.the-variants as Admission
 use Rattle.verdict.specs.declared.Started.{Started}
 use Rattle.verdict.specs.declared.Started.the-variants.{At, Refused}
-use Rattle.registerbytes.specs.Bytes.{unpacked}
-use Rattle.registerbytes.proofs.RoundTrip.{unpacked-packed}
+use Rattle.monitor.specs.Bytes.{unpacked}
+use Rattle.monitor.proofs.RoundTrip.{unpacked-packed}
 use Rattle.monitor.specs.Slot.{headerIn, costIn, stackIn}
 use Rattle.monitor.specs.Routine.{Judged, ofVerdict, Beginning, ofStarted, Filling, ofAdmission}
 use Rattle.monitor.proofs.SlotBytes.{header-in-slot, cost-in-slot, stack-in-slot}

@@ -22,9 +22,9 @@ use Rattle.verdict.specs.declared.Started.the-variants.{At, Refused}
 use Rattle.verdict.specs.Routine.{Begun, begunOf, Certain}
 use Rattle.verdict.proofs.Home.{started-comes-home}
 use Rattle.verdict.proofs.BegunNumbered.{begun-numbered}
-use Rattle.registerbytes.specs.Bytes.{packed, unpacked}
-use Rattle.registerbytes.specs.Calls.{called, runBytesOf}
-use Rattle.registerbytes.proofs.RoundTrip.{unpacked-packed}
+use Rattle.monitor.specs.Bytes.{packed, unpacked}
+use Rattle.monitor.specs.Calls.{called, runBytesOf}
+use Rattle.monitor.proofs.RoundTrip.{unpacked-packed}
 use Rattle.monitor.specs.Home.{BytesComeHome, StartedBytesComeHome}
 use Rattle.monitor.specs.Routine.{Beginning, beginning, ofStarted, startBytesOf}
 

@@ -2,3 +2,8 @@ pub mod SlotBytes
 pub mod BytesHome
 pub mod SlotHome
 pub mod Apart
+pub mod Elements
+pub mod RoundTrip
+pub mod Sized
+pub mod Agrees
+pub mod RepliesApart

@@ -7,7 +7,7 @@ use lib.ListN.{length}
 use Rattle.registers.specs.declared.Cycles.{Cycles}
 use Rattle.registers.specs.declared.StackBytes.{StackBytes}
 use Rattle.commands.specs.declared.prefix.Header.{Header}
-use Rattle.registerbytes.proofs.RoundTrip.{halves}
+use Rattle.monitor.proofs.RoundTrip.{halves}
 use Rattle.monitor.specs.Slot.{slotOf, headerIn, costIn, stackIn}
 
 long-halves : (w : ℕ) → w / 65536 * 65536 + w % 65536 ≡ w

@@ -19,7 +19,7 @@ use Rattle.verdict.specs.Admission.{admittedOf}
 use Rattle.verdict.specs.Start.{loadedOf}
 use Rattle.verdict.proofs.Home.{admitted-comes-home}
 use Rattle.verdict.proofs.BegunNumbered.{admission-numbered}
-use Rattle.registerbytes.specs.Bytes.{packed, unpacked}
+use Rattle.monitor.specs.Bytes.{packed, unpacked}
 use Rattle.monitor.specs.Slot.{slotOf}
 use Rattle.monitor.specs.Routine.{beginning, Filling, filling, ofAdmission, certifyBytesOf, startSlotOf}
 use Rattle.monitor.specs.Home.{SlotComesHome, FilledSlotComesHome, StartsFromFilledSlot}

@@ -8,8 +8,8 @@ use Rattle.commands.specs.Number.{AllBytes}
 use Rattle.rules.specs.Trace.{total}
 use Rattle.rules.specs.Claim.{Stops}
 use Rattle.verdict.specs.Routine.{Certain}
-use Rattle.registerbytes.specs.Bytes.{packed, unpacked}
-use Rattle.registerbytes.specs.Calls.{called, runBytesOf}
+use Rattle.monitor.specs.Bytes.{packed, unpacked}
+use Rattle.monitor.specs.Calls.{called, runBytesOf}
 use Rattle.monitor.specs.Slot.{costIn, stackIn}
 use Rattle.monitor.specs.Routine.{startBytesOf, filling, certifyBytesOf, startSlotOf}
 

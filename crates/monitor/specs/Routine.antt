@@ -8,8 +8,8 @@ use mathlib.Core.List.{List}
 use lib.Dec.{eqb}
 use lib.ListN.{length}
 use Rattle.registers.specs.Registers.{dataOf}
-use Rattle.rules.specs.declared.Verdict.{Verdict}
-use Rattle.rules.specs.declared.Verdict.the-variants.{Accept, Refuse}
+use Rattle.answers.specs.declared.Verdict.{Verdict}
+use Rattle.answers.specs.declared.Verdict.the-variants.{Accept, Refuse}
 use Rattle.verdict.specs.declared.Admission.{Admission}
 use Rattle.verdict.specs.declared.Admission.the-variants as Admission
 use Rattle.verdict.specs.declared.Started.{Started}
@@ -17,7 +17,7 @@ use Rattle.verdict.specs.declared.Started.the-variants.{At, Refused}
 use Rattle.verdict.specs.Admission.{admittedOf}
 use Rattle.verdict.specs.Start.{startedOf, loadedOf}
 use Rattle.verdict.specs.Routine.{begunOf}
-use Rattle.registerbytes.specs.Bytes.{packed, unpacked}
+use Rattle.monitor.specs.Bytes.{packed, unpacked}
 use Rattle.monitor.specs.Slot.{slotOf, headerIn}
 
 -- the verdict's call: its outcome, and the numbers that it was lent, afterwards

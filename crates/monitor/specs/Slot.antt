@@ -6,7 +6,7 @@ use Rattle.registers.specs.declared.Cycles.{Cycles}
 use Rattle.registers.specs.declared.StackBytes.{StackBytes}
 use Rattle.commands.specs.declared.command.Window.{Window}
 use Rattle.commands.specs.declared.prefix.Header.{Header}
-use Rattle.registerbytes.specs.Bytes.{wordIn, withWord}
+use Rattle.monitor.specs.Bytes.{wordIn, withWord}
 
 -- a number's two bytes, and its four
 abbrev pub wordBytes : ℕ → List ℕ

@@ -3,18 +3,20 @@
 ghost use mathlib.Core.Path.{_≡_};
 ghost use Rattle.rules.specs.Checks.{verdictOf};
 ghost use Rattle.verdict.specs.Promise.{Promised};
-ghost use Rattle.registerbytes.specs.Calls.{called, resetBytesOf, stepBytesOf, runBytesOf};
+ghost use Rattle.monitor.specs.Calls.{called, resetBytesOf, stepBytesOf, runBytesOf};
 ghost use Rattle.monitor.specs.Routine.{judged, ofVerdict, beginning, startBytesOf};
 ghost use Rattle.monitor.specs.Routine.{filling, certifyBytesOf, startSlotOf};
 ghost use Rattle.monitor.specs.Home.{StartedBytesComeHome, FilledSlotComesHome, StartsFromFilledSlot};
-use registerbytes::bytes::pack;
-use registerbytes::calls;
+use crate::bytes::pack;
+use crate::calls;
+use answers::Verdict;
 use registers::Registers;
-use rules::Verdict;
 use verdict::verdict;
 
 mod routine; // a routine judged and started, and the number that a call answers
 mod slot; // a routine judged into a slot, and started from it
+pub mod bytes; // the registers as 11 bytes
+pub mod calls; // a step and a run, and the numbers that a call answers
 
 #[no_mangle]
 pub extern "C" fn jugrond_reset(regs: &mut [u8]) -> u32

@@ -5,7 +5,8 @@ use mathlib.Core.Bool.{Bool, true, false, not, _&&_}
 use Prim.Native.Nat.{ℕ, _+_, _*_, _<_, _%_}
 use lib.Dec.{T}
 use lib.ListN.{getD}
-use Rattle.registers.specs.Flags.{bit, one}
+use Rattle.registers.specs.Flags.{bit}
+use Rattle.lists.specs.Bit.{one}
 use Rattle.registers.specs.declared.flags.Flags.{Flags}
 use Rattle.opcodes.specs.Conditions.{Test, tests, truthWords, holdsOf}
 use Rattle.opcodes.proofs.Every.{both-left, both-right, every, at}

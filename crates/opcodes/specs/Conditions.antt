@@ -4,7 +4,8 @@ use Prim.Native.Nat.{ℕ, zero, suc, _+_, _*_, _%_, _^_}
 use mathlib.Core.Bool.{Bool, true, false, not, _||_}
 use mathlib.Core.List.{List, [], _∷_}
 use lib.ListN.{getD}
-use Rattle.registers.specs.Flags.{bit, low, one, xor}
+use Rattle.registers.specs.Flags.{bit, low, xor}
+use Rattle.lists.specs.Bit.{one}
 use Rattle.registers.specs.declared.flags.Flags.{Flags}
 
 abbrev pub Test : Type 0

@@ -1,10 +1,10 @@
 -- The form of an instruction, from its action, its operand and the address after it: what it does to PC, SP and memory.
 -- The step takes PC, SP and the addresses that are written from it, and so do the ticket rules (`rules/specs/Shape.antt`; document 01, "Rules at a mark").
 -- Assumes nothing.
-use Prim.Native.Nat.{ℕ, _+_, _%_}
+use Prim.Native.Nat.{ℕ, _%_}
 use mathlib.Core.Bool.{Bool, true, false, cond}
-use lib.Dec.{eqb, ltb}
-use Rattle.registers.specs.Word.{plus}
+use lib.Dec.{eqb}
+use Rattle.registers.specs.Word.{targetOf}
 use Rattle.opcodes.specs.declared.instruction.Action.{Action}
 use Rattle.opcodes.specs.declared.instruction.Action.the-variants.{Inherent, Unary, TstAccumulator, Binary, TstMemory, LoadWord, Addd, Subd, CompareWord, StoreByte, StoreWord, Modify, Bset, Bclr, Brset, Brclr, Branch, Jmp, Call, Rts, PushByte, PushWord, PullByte, PullWord, Des, Ins, SetStack, Swi, Rti, Wai, Stop, Test}
 use Rattle.opcodes.specs.declared.instruction.Word.{Word}
@@ -15,10 +15,6 @@ use Rattle.opcodes.specs.declared.instruction.Operand.{Operand}
 use Rattle.opcodes.specs.declared.instruction.Operand.the-variants as Operand
 use Rattle.opcodes.specs.declared.form.Form.{Form}
 use Rattle.opcodes.specs.declared.form.Form.the-variants.{Computes, StoresByte, StoresWord, PushesByte, PushesWord, PullsByte, PullsWord, Reserves, Releases, Branches, Jumps, Calls, Returns, MovesSp, Interrupts, Resumes, Waits}
-
--- a relative offset is signed, and counts from the next instruction
-unfoldable pub targetOf : ℕ → ℕ → ℕ
-targetOf next d = cond (ltb d 128) (plus next d) (plus next (d + 0xff00))
 
 -- where the operand stands, or where a jump goes. An inherent or immediate operand names no address
 unfoldable pub addressIn : Operand → ℕ → Address

@@ -4,3 +4,5 @@ pub mod form; // what an instruction does to PC, SP and memory
 pub mod table; // length, cycles, action and mode of each place
 pub mod condition; // the sixteen tests
 pub mod decode; // from bytes to a place
+pub mod decoder;
+mod numbered; // the actions and modes by their numbers

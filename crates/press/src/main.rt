@@ -4,7 +4,7 @@ use files::load;
 use files::unfit;
 use io::write_all;
 use libc::STDOUT_FILENO;
-use lines::answer::put_verdict;
+use text::verdict::put_verdict;
 use verdict::verdict;
 
 fn judge(ticket: &[u8], image: &[u8]) {

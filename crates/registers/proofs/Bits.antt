@@ -5,7 +5,7 @@ use mathlib.Core.Bool.{Bool, true, false}
 use Prim.Native.Nat.{ℕ, zero, suc, _≤_, _<_}
 use native.Mathlib.Omega.{arith}
 use lib.Dec.{eqb}
-use Rattle.registers.specs.Flags.{one}
+use Rattle.lists.specs.Bit.{one}
 
 pub one≤ : (b : Bool) → one b ≤ 1
 one≤ true = omega arith

@@ -6,7 +6,8 @@ use Prim.Native.Nat.{ℕ, _+_, _*_, _/_, _%_, _<_}
 use native.Mathlib.Omega.{arith}
 use lib.Dec.{eqb}
 use Rattle.registers.specs.declared.flags.Flags.{Flags}
-use Rattle.registers.specs.Flags.{bit, low, one, flagsOf, byteOf}
+use Rattle.registers.specs.Flags.{bit, low, flagsOf, byteOf}
+use Rattle.lists.specs.Bit.{one}
 use Rattle.registers.proofs.Bits.{one≤, digit}
 
 of-one : (b : Bool) (n : ℕ) → n ≡ one b → eqb n 1 ≡ b

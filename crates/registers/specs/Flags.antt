@@ -3,6 +3,7 @@
 use Prim.Native.Nat.{ℕ, _+_, _*_, _/_, _%_, _^_}
 use mathlib.Core.Bool.{Bool, true, false, not}
 use lib.Dec.{eqb}
+use Rattle.lists.specs.Bit.{one}
 use Rattle.registers.specs.declared.flags.Flags.{Flags}
 
 -- bit k of n
@@ -12,11 +13,6 @@ bit k n = eqb (n / 2 ^ k % 2) 1
 -- bit 0 of n
 abbrev pub low : ℕ → Bool
 low n = eqb (n % 2) 1
-
--- a bit as a number
-abbrev pub one : Bool → ℕ
-one true = 1
-one false = 0
 
 abbrev pub xor : Bool → Bool → Bool
 xor true b = not b

@@ -1,7 +1,8 @@
 // The condition codes as eight bools, and as the byte that the registers hold.
 ghost use mathlib.Core.Path.{_≡_};
-ghost use Prim.Native.Nat.{_≤_};
-ghost use Rattle.registers.specs.Flags.{one, flagsOf, byteOf};
+ghost use Rattle.registers.specs.Flags.{flagsOf, byteOf};
+ghost use Rattle.lists.specs.Bit.{one};
+use lists::bit::one;
 
 // Document 01's flags S X H I N Z V C, from bit 7 to bit 0 of their byte.
 pub struct Flags {
@@ -13,13 +14,6 @@ pub struct Flags {
     pub z: bool,
     pub v: bool,
     pub c: bool,
-}
-
-// A bit as a number.
-pub fn one(c: bool) -> u8
-    ensures { λ r. ⌜ (r ≡ one c) × (r ≤ 1) ⌝ }
-{
-    if c { 1 } else { 0 }
 }
 
 impl Flags {

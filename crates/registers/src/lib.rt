@@ -56,7 +56,7 @@ impl Registers {
         Registers {
             x: d.x,
             y: d.y,
-            sp: word::down(last, 2),
+            sp: word::wrapping_sub(last, 2),
             pc: entry,
             a: d.a,
             b: d.b,

@@ -1,17 +1,28 @@
 // The register arithmetic of the manual: PC, SP and the address of an indexed operand wrap at 65,536.
 ghost use mathlib.Core.Path.{_≡_};
-ghost use Rattle.registers.specs.Word.{plus, less};
+ghost use Rattle.registers.specs.Word.{wrappingAdd, wrappingSub, targetOf};
 
 // n past a.
-pub fn up(a: u16, n: u16) -> u16
-    ensures { λ r. ⌜ r ≡ plus a n ⌝ }
+pub fn wrapping_add(a: u16, n: u16) -> u16
+    ensures { λ r. ⌜ r ≡ wrappingAdd a n ⌝ }
 {
     std::num::wrapping_add_u16(a, n)
 }
 
 // n before a.
-pub fn down(a: u16, n: u16) -> u16
-    ensures { λ r. ⌜ r ≡ less a n ⌝ }
+pub fn wrapping_sub(a: u16, n: u16) -> u16
+    ensures { λ r. ⌜ r ≡ wrappingSub a n ⌝ }
 {
     std::num::wrapping_sub_u16(a, n)
+}
+
+// Where a branch by a signed offset goes.
+pub fn target(next: u16, d: u8) -> u16
+    ensures { λ q. ⌜ q ≡ targetOf next d ⌝ }
+{
+    if d < 128 {
+        wrapping_add(next, d as u16)
+    } else {
+        wrapping_add(next, (d as u16) + 0xff00)
+    }
 }

@@ -4,7 +4,7 @@ use Prim.Native.Nat.{ℕ, _+_}
 use mathlib.Core.Path.{_≡_}
 use mathlib.Core.List.{List}
 use Rattle.ticket.specs.Fields.{Fields}
-use Rattle.rules.specs.declared.Verdict.the-variants.{Accept}
+use Rattle.answers.specs.declared.Verdict.the-variants.{Accept}
 use Rattle.rules.specs.Rules.{Accepted}
 use Rattle.rules.specs.Checks.{judgedOf}
 use Rattle.rules.proofs.Passes.{append-says, first-says}

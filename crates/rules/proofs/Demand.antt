@@ -8,7 +8,7 @@ use Rattle.registers.specs.declared.Cycles.{Cycles}
 use Rattle.registers.specs.declared.StackBytes.{StackBytes}
 use Rattle.commands.specs.Number.{AllBytes}
 use Rattle.ticket.specs.Fields.{Fields}
-use Rattle.rules.specs.declared.Verdict.the-variants.{Accept}
+use Rattle.answers.specs.declared.Verdict.the-variants.{Accept}
 use Rattle.rules.specs.Rules.{Accepted, Certified}
 use Rattle.rules.specs.Checks.{verdictOf}
 use Rattle.rules.proofs.Exact.{accepts-exactly}

@@ -10,7 +10,7 @@ use Rattle.commands.specs.Number.{AllBytes}
 use Rattle.ticket.specs.Fields.{Outcome, read, refused}
 use Rattle.ticket.specs.Read.{readOf}
 use Rattle.ticket.proofs.Accepts.{read-rules, rules-read}
-use Rattle.rules.specs.declared.Verdict.the-variants.{Accept}
+use Rattle.answers.specs.declared.Verdict.the-variants.{Accept}
 use Rattle.rules.specs.Rules.{Certified}
 use Rattle.rules.specs.Checks.{verdictBy, verdictOf}
 use Rattle.rules.proofs.Passes.{refuses}

@@ -8,7 +8,7 @@ use mathlib.Core.List.{List, [], _∷_}
 use native.Mathlib.Omega.{arith}
 use lib.ListN.{length}
 use borrow.Author.Tests.{eq-eqb}
-use Rattle.registers.specs.Word.{plus, less}
+use Rattle.registers.specs.Word.{wrappingAdd, wrappingSub}
 use Rattle.registers.specs.Registers.{withPc}
 use Rattle.registers.specs.declared.Registers.{Registers}
 use Rattle.memory.specs.Memory.{Store, store, wordAt}
@@ -41,17 +41,17 @@ every-some (a ∷ l) (more p ps) (inr s) = every-some l ps s
 
 -- a store of an ordinary instruction: on the stack from SP down, above the SP that it leaves, or to one of the addresses written
 abbrev pub Stored : Registers → (pushed pulled : ℕ) → List ℕ → Store → Type 0
-Stored r pushed pulled written w = ((i : ℕ) × (i + pulled < pushed) × (w .at ≡ less (r .sp) i)) ⊎ Some (λ a. w .at ≡ a) written
+Stored r pushed pulled written w = ((i : ℕ) × (i + pulled < pushed) × (w .at ≡ wrappingSub (r .sp) i)) ⊎ Some (λ a. w .at ≡ a) written
 
 abbrev pub Obeys : Shape → Registers → List ℕ → Type 0
 Obeys (ordinary next pushed pulled written k) r m =
     (q : Registers) × (ws : List Store) × (didOf r m ≡ did q ws k) × (kindOf m (r .pc) ≡ plain) × Some (λ a. q .pc ≡ a) next
     × (q .sp ≡ (r .sp + pulled + (65536 - pushed)) % 65536) × Every (Stored r pushed pulled written) ws
 Obeys (call target after k) r m =
-    (q : Registers) × (didOf r m ≡ did q (store (r .sp) (after % 256) ∷ store (less (r .sp) 1) (after / 256) ∷ []) k)
-    × (kindOf m (r .pc) ≡ calls) × (q .pc ≡ target) × (q .sp ≡ less (r .sp) 2)
+    (q : Registers) × (didOf r m ≡ did q (store (r .sp) (after % 256) ∷ store (wrappingSub (r .sp) 1) (after / 256) ∷ []) k)
+    × (kindOf m (r .pc) ≡ calls) × (q .pc ≡ target) × (q .sp ≡ wrappingSub (r .sp) 2)
 Obeys (return k) r m =
-    (q : Registers) × (didOf r m ≡ did q [] k) × (kindOf m (r .pc) ≡ returns) × (q .pc ≡ wordAt m (plus (r .sp) 1)) × (q .sp ≡ plus (r .sp) 2)
+    (q : Registers) × (didOf r m ≡ did q [] k) × (kindOf m (r .pc) ≡ returns) × (q .pc ≡ wordAt m (wrappingAdd (r .sp) 1)) × (q .sp ≡ wrappingAdd (r .sp) 2)
 Obeys forbidden r m = Unit
 Obeys nothing r m = Unit
 
@@ -67,13 +67,13 @@ module _ (r : Registers) (m : List ℕ) (low : r .sp < 65536) where
 
   -- the first byte pushed goes to SP
   top : (n v : ℕ) → 0 < n → Stored r n 0 [] (store (r .sp) v)
-  unfolding less
+  unfolding wrappingSub
   top n v h = inl (0, omega arith, omega arith)
 
   -- next is the address after the instruction; w is what it computed, which does not matter
   by-form : (g : Form) (next k : ℕ) (w : Outcome) → didOf r m ≡ executed (waits g) (r .pc) (effectWith g (withPc r next) w m) k
       → kindOf m (r .pc) ≡ kindBy g → Obeys (shapeBy g next k) r m
-  unfolding effectBy addressOf plus less
+  unfolding effectBy addressOf wrappingAdd wrappingSub
   by-form Computes next k w e h = (_, _, e, h, inl refl, kept, none)
   by-form (StoresByte (Fixed a)) next k w e h = (_, _, e, h, inl refl, kept, more (inr (inl refl)) none)
   by-form (StoresByte (IndexedX d)) next k w e h = tt
@@ -105,7 +105,7 @@ module _ (r : Registers) (m : List ℕ) (low : r .sp < 65536) where
   unfolding carriedOut effectOf
   by-decoded p Nothing e h = tt
   by-decoded p (Instruction a o) e h =
-      let next = plus (r .pc) (lengthAt p) in
+      let next = wrappingAdd (r .pc) (lengthAt p) in
       let q = withPc r next in
       by-form (formOf a o next) next (cyclesAt p) (outcomeOf a (maskOf o) (inputOf (readsOf a) o q m) q) e h
 

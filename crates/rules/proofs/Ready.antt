@@ -7,7 +7,7 @@ use mathlib.Core.List.{List, [], _∷_, tail}
 use mathlib.Core.Option.{some}
 use native.Mathlib.Omega.{arith}
 use lib.ListN.{length}
-use Rattle.registers.specs.Word.{plus, less}
+use Rattle.registers.specs.Word.{wrappingAdd, wrappingSub}
 use Rattle.registers.specs.declared.Registers.{Registers}
 use Rattle.memory.specs.Memory.{Store, store, wordAt, applied, pushStores}
 use Rattle.stepper.specs.Step.{did, fetched, didOf}
@@ -97,7 +97,7 @@ module _ {f : Fields} {image : List ℕ} {A : Accepted f image} {r : Registers} 
     placed : (a : ℕ) → Follows (f .marks) (R .claim) pushed pulled k a
         → (w : Store) → Stored r pushed pulled written w → Placed f (R .base) w
     placed a F w (inl (i, h, e)) =
-        let d : less (r .sp) i + i ≡ r .sp = less-is (r .sp) i (omega (arith, small, R .depth)) (omega (arith, free, F .need, rules .stack-start)) in
+        let d : wrappingSub (r .sp) i + i ≡ r .sp = less-is (r .sp) i (omega (arith, small, R .depth)) (omega (arith, free, F .need, rules .stack-start)) in
         inl (omega (arith, free, F .need), omega (arith, R .depth))
     placed a F w (inr h) =
         let s : (x : ℕ) × In (f .header .«data») x × (w .at ≡ x) = every-some written (O .stores) h in
@@ -135,13 +135,13 @@ module _ {f : Fields} {image : List ℕ} {A : Accepted f image} {r : Registers} 
 
   by-call : (target after k : ℕ) → CallRules f (R .claim) target after k → Obeys (call target after k) r m → Stepped A r m used p
   by-call target after k C (q, done, kind, pc, sp) =
-      let one : less (r .sp) 1 + 1 ≡ r .sp = less-is (r .sp) 1 (omega (arith, small, R .depth)) (omega (arith, free, C .there-need, rules .stack-start)) in
+      let one : wrappingSub (r .sp) 1 + 1 ≡ r .sp = less-is (r .sp) 1 (omega (arith, small, R .depth)) (omega (arith, free, C .there-need, rules .stack-start)) in
       let e2 : r .sp ≡ q .sp + 2 = rw sp (sym (less-is (r .sp) 2 (omega (arith, small, R .depth)) (omega (arith, free, C .there-need, rules .stack-start)))) in
-      let e1 : less (r .sp) 1 ≡ q .sp + 1 = omega arith in
+      let e1 : wrappingSub (r .sp) 1 ≡ q .sp + 1 = omega arith in
       let ws : List Store = pushStores (r .sp) after in
       let P : Every (Placed f (R .base)) ws =
       more {a = store (r .sp) (after % 256)} (inl (omega (arith, free, C .there-need), omega (arith, R .depth)))
-      (more {a = store (less (r .sp) 1) (after / 256)} (inl (omega (arith, free, C .there-need), omega (arith, R .depth))) none) in
+      (more {a = store (wrappingSub (r .sp) 1) (after / 256)} (inl (omega (arith, free, C .there-need), omega (arith, R .depth))) none) in
       record {
         registers = q;
         stores = ws;
@@ -175,7 +175,7 @@ module _ {f : Fields} {image : List ℕ} {A : Accepted f image} {r : Registers} 
 
   -- home, or in the routine that called
   back : (us : List Frame) → Stacked f (A .start .need .0) m (R .base) us → used ≡ pairs (R .base) us
-      → (q : Registers) → q .pc ≡ wordAt m (plus (R .base) 1) → q .sp ≡ R .base + 2 → Arrived f q ⊎ Ready A q m (tail used) (owed us)
+      → (q : Registers) → q .pc ≡ wordAt m (wrappingAdd (R .base) 1) → q .sp ≡ R .base + 2 → Arrived f q ⊎ Ready A q m (tail used) (owed us)
   back [] S U q pc sp = inl (record { pc = pc ∙ word-holds m (R .base) 0 small (S .1); sp = sp ∙ S .0 })
   back (u ∷ us) S U q pc sp = inr (record {
     base = u .base;

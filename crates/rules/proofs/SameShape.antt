@@ -5,7 +5,7 @@ use mathlib.Core.Path.{_≡_, sym, ap, _∙_}
 use mathlib.Core.List.{List}
 use native.Mathlib.Omega.{arith}
 use lib.ListN.{length, getD}
-use Rattle.registers.specs.Word.{plus}
+use Rattle.registers.specs.Word.{wrappingAdd}
 use Rattle.memory.specs.Memory.{byteAt}
 use Rattle.opcodes.specs.Tables.{costAt, lengthAt}
 use Rattle.opcodes.specs.Decode.{Bytes, placeIn}
@@ -23,10 +23,10 @@ no-shape f a z = simp (none-there _ f z)
 pub same-shape : (code : Window) (image m : List ℕ) (a : ℕ) → (shapeOf (imageFrom code image a) a ≡ nothing → ⊥) → code .start ≤ a
     → a + sizeOf (imageFrom code image a) ≤ code .start + code .length → code .start + code .length ≤ 65536 → length image ≡ code .length
     → ((i : ℕ) → i < length image → byteAt m (code .start + i) ≡ getD image i 0) → shapeOf (fetched m a) a ≡ shapeOf (imageFrom code image a) a
-unfolding shapeOf sizeOf plus
+unfolding shapeOf sizeOf wrappingAdd
 same-shape code image m a there from within fits whole loaded =
     let f = imageFrom code image a in
-    let place : (i : ℕ) → i < lengthAt (placeIn f) → code .start + (a - code .start + i) ≡ plus a i = λ i h. omega arith in
+    let place : (i : ℕ) → i < lengthAt (placeIn f) → code .start + (a - code .start + i) ≡ wrappingAdd a i = λ i h. omega arith in
     let l = local f (fetched m a) (λ z. there (no-shape f a z))
     (λ i h. sym (loaded (a - code .start + i) (omega arith)) ∙ ap (byteAt m) (place i h)) in
     rw (l .1, l .0)

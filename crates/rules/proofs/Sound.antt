@@ -8,7 +8,7 @@ use Rattle.registers.specs.declared.Cycles.{Cycles}
 use Rattle.registers.specs.declared.StackBytes.{StackBytes}
 use Rattle.ticket.specs.Fields.{Fields}
 use Rattle.ticket.specs.Rules.{Readable}
-use Rattle.rules.specs.declared.Verdict.the-variants.{Accept}
+use Rattle.answers.specs.declared.Verdict.the-variants.{Accept}
 use Rattle.rules.specs.Marks.{claimAt}
 use Rattle.rules.specs.Rules.{Accepted}
 use Rattle.rules.specs.Checks.{judgedOf}

@@ -5,7 +5,7 @@ use mathlib.Core.Path.{_≡_}
 use mathlib.Core.List.{List, [], _∷_}
 use native.Mathlib.Omega.{arith}
 use Rattle.registers.specs.Registers.{startOf}
-use Rattle.registers.specs.Word.{less}
+use Rattle.registers.specs.Word.{wrappingSub}
 use Rattle.registers.specs.declared.Data.{Data}
 use Rattle.ticket.specs.Fields.{Fields}
 use Rattle.rules.specs.Rules.{Accepted}
@@ -18,7 +18,7 @@ ready : (f : Fields) (image : List ℕ) (A : Accepted f image) (d : Data) (m : L
     → Ready A (startOf d (f .header .entry) (topOf f)) m (homePair f ∷ []) (A .start .cost .0)
 ready f image A d m L =
     let H = A .readable .header-rules in
-    let b : ℕ = less (topOf f) 2 in
+    let b : ℕ = wrappingSub (topOf f) 2 in
     let e : b + 2 ≡ topOf f = less-is (topOf f) 2 (omega (arith, H .stack-edge, H .stack-start)) (omega (arith, H .stack-start, H .stack-length .0)) in
     let e1 : b + 1 ≡ topOf f - 1 = omega arith in
     record {

@@ -11,8 +11,8 @@ use Rattle.commands.specs.declared.command.Claim.{Claim}
 use Rattle.ticket.specs.declared.fields.Mark.{Mark}
 use Rattle.ticket.specs.Fields.{Fields, Outcome, read, refused}
 use Rattle.ticket.specs.Read.{refusal, readOf}
-use Rattle.rules.specs.declared.Verdict.{Verdict}
-use Rattle.rules.specs.declared.Verdict.the-variants.{Accept, Refuse}
+use Rattle.answers.specs.declared.Verdict.{Verdict}
+use Rattle.answers.specs.declared.Verdict.the-variants.{Accept, Refuse}
 use Rattle.rules.specs.Shape.{Shape, ordinary, call, return, forbidden, nothing, shapeOf, sizeOf}
 use Rattle.rules.specs.Marks.{claimAt, imageFrom}
 

@@ -2,7 +2,7 @@
 -- Assumes nothing.
 use Prim.Native.Nat.{ℕ}
 use mathlib.Core.List.{List, [], _∷_}
-use Rattle.registers.specs.Word.{plus}
+use Rattle.registers.specs.Word.{wrappingAdd}
 use Rattle.opcodes.specs.Tables.{lengthAt, cyclesAt}
 use Rattle.opcodes.specs.Decode.{Bytes, placeIn, decodeOf}
 use Rattle.opcodes.specs.Form.{formOf}
@@ -49,7 +49,7 @@ calls (IndexedY d) after k = forbidden
 abbrev pub shapeBy : Form → ℕ → ℕ → Shape
 shapeBy Computes after k = goesOn after 0 0 k
 shapeBy (StoresByte p) after k = writes p (λ a. a ∷ []) after k
-shapeBy (StoresWord p) after k = writes p (λ a. a ∷ plus a 1 ∷ []) after k
+shapeBy (StoresWord p) after k = writes p (λ a. a ∷ wrappingAdd a 1 ∷ []) after k
 shapeBy PushesByte after k = goesOn after 1 0 k
 shapeBy PushesWord after k = goesOn after 2 0 k
 shapeBy PullsByte after k = goesOn after 0 1 k
@@ -67,7 +67,7 @@ shapeBy Waits after k = forbidden
 
 abbrev pub shapeIn : ℕ → Decoded → ℕ → Shape
 shapeIn p Nothing a = nothing
-shapeIn p (Instruction act o) a = let after = plus a (lengthAt p) in shapeBy (formOf act o after) after (cyclesAt p)
+shapeIn p (Instruction act o) a = let after = wrappingAdd a (lengthAt p) in shapeBy (formOf act o after) after (cyclesAt p)
 
 -- of the instruction at address a, whose bytes are f; the step decodes with the same definition
 unfoldable pub shapeOf : Bytes → ℕ → Shape

@@ -4,7 +4,7 @@
 use Prim.Native.Nat.{ℕ, _+_}
 use mathlib.Core.Path.{_≡_}
 use mathlib.Core.List.{List, [], _∷_, tail}
-use Rattle.registers.specs.Word.{plus}
+use Rattle.registers.specs.Word.{wrappingAdd}
 use Rattle.registers.specs.declared.Registers.{Registers}
 use Rattle.memory.specs.Memory.{Store, applied}
 use Rattle.opcodes.specs.Decode.{placeIn, decodeOf}
@@ -41,7 +41,7 @@ kindBy Waits = plain
 
 abbrev pub kindIn : ℕ → Decoded → ℕ → Kind
 kindIn p Nothing pc = plain
-kindIn p (Instruction a o) pc = kindBy (formOf a o (plus pc (lengthAt p)))
+kindIn p (Instruction a o) pc = kindBy (formOf a o (wrappingAdd pc (lengthAt p)))
 
 -- of the instruction that memory has at PC
 unfoldable pub kindOf : List ℕ → ℕ → Kind

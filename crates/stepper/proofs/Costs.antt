@@ -19,7 +19,7 @@ use Rattle.opcodes.specs.declared.instruction.Action.{Action}
 use Rattle.opcodes.specs.declared.instruction.Operand.{Operand}
 use Rattle.opcodes.specs.declared.instruction.Decoded.{Decoded}
 use Rattle.opcodes.specs.declared.instruction.Decoded.the-variants.{Instruction, Nothing}
-use Rattle.registers.specs.Word.{plus}
+use Rattle.registers.specs.Word.{wrappingAdd}
 use Rattle.registers.specs.Registers.{withPc}
 use Rattle.stepper.specs.Answer.{done}
 use Rattle.instructions.specs.Effect.{Effect, effectOf}
@@ -35,7 +35,7 @@ module _ (r : Registers) (m : List ℕ) (q : Registers) (k : Cycles) where
       → after (carriedOut p (Instruction a o) r m) m .answer ≡ done q k → cyclesAt p ≡ k .0
   unfolding carriedOut
   own-cycles p a o s =
-      let next = withPc r (plus (r .pc) (lengthAt p)) in
+      let next = withPc r (wrappingAdd (r .pc) (lengthAt p)) in
       by-wait (waits (formOf a o (next .pc))) (effectOf a o next m) (cyclesAt p) s
 
   carried : (p : ℕ) (f : Bytes) (d : Decoded) → decodeAt p f ≡ d → after (carriedOut p d r m) m .answer ≡ done q k → 2 ≤ k .0

@@ -8,3 +8,5 @@ pub mod Once
 pub mod Sum
 pub mod Enough
 pub mod Apart
+pub mod RecordCell
+pub mod RecordsApart

@@ -8,7 +8,7 @@ use native.Mathlib.Omega.{arith}
 use lib.ListN.{length}
 use borrow.Author.Tests.{eq-eqb, ne-eqb}
 use Rattle.registers.proofs.Wrap.{plus-zero, plus-plus}
-use Rattle.registers.specs.Word.{plus}
+use Rattle.registers.specs.Word.{wrappingAdd}
 use Rattle.registers.specs.Registers.{withPc}
 use Rattle.registers.specs.declared.Cycles.{Cycles}
 use Rattle.registers.specs.declared.Registers.{Registers}
@@ -37,10 +37,10 @@ unfit r m n = simp (ne-eqb _ _ n)
 
 -- what is found by the two bytes at PC
 abbrev pub foundAt : Registers → List ℕ → Found
-foundAt r m = foundOf (byteAt m (r .pc)) (byteAt m (plus (r .pc) 1))
+foundAt r m = foundOf (byteAt m (r .pc)) (byteAt m (wrappingAdd (r .pc) 1))
 
-place : (r : Registers) (m : List ℕ) → r .pc < 65536 → placeIn (fetched m (r .pc)) ≡ placeOf (byteAt m (r .pc)) (byteAt m (plus (r .pc) 1))
-place r m low = ap (λ (a : ℕ). placeOf (byteAt m a) (byteAt m (plus (r .pc) 1))) (plus-zero (r .pc) low)
+place : (r : Registers) (m : List ℕ) → r .pc < 65536 → placeIn (fetched m (r .pc)) ≡ placeOf (byteAt m (r .pc)) (byteAt m (wrappingAdd (r .pc) 1))
+place r m low = ap (λ (a : ℕ). placeOf (byteAt m a) (byteAt m (wrappingAdd (r .pc) 1))) (plus-zero (r .pc) low)
 
 pub nowhere : (r : Registers) (m : List ℕ) → length m ≡ 65536 → r .pc < 65536 → foundAt r m ≡ Found.Nothing
     → stepOf r m ≡ record { answer = refused 22 (r .pc); memory = m }
@@ -54,7 +54,7 @@ pub record Here (r : Registers) (m : List ℕ) (p s e : ℕ) : Type 0 where
   pub found : foundAt r m ≡ Found.At p s e
 
 module _ {r : Registers} {m : List ℕ} {p s e : ℕ} (h : Here r m p s e) where
-  says : Said (byteAt m (r .pc)) (byteAt m (plus (r .pc) 1)) p s e
+  says : Said (byteAt m (r .pc)) (byteAt m (wrappingAdd (r .pc) 1)) p s e
   says = there-says _ _ p s e (h .found)
 
   -- the length fits in a word
@@ -62,10 +62,10 @@ module _ {r : Registers} {m : List ℕ} {p s e : ℕ} (h : Here r m p s e) where
   length-word = omega (arith, entry-word p, says .2)
 
   abbrev operand : Operand
-  operand = operandFrom (modeAt p) (plus (r .pc) s) m
+  operand = operandFrom (modeAt p) (wrappingAdd (r .pc) s) m
 
   abbrev past : Registers
-  past = withPc r (plus (r .pc) (e / 256))
+  past = withPc r (wrappingAdd (r .pc) (e / 256))
 
   decoded : decodeAt p (fetched m (r .pc)) ≡ Instruction (actionAt p) operand
   unfolding decodeAt instructionOf
@@ -107,7 +107,7 @@ module _ {r : Registers} {m : List ℕ} {p s e : ℕ} (h : Here r m p s e) where
 
     -- k is a number of the mode, and the code executes the two from these registers v
     pub executes : b ≡ false → (k : ℕ) → modeOf k ≡ modeAt p → {from next : ℕ} {v q : Registers} {m′ : List ℕ}
-        → from ≡ plus (r .pc) s → next ≡ plus (r .pc) (e / 256) → v ≡ withPc r next
+        → from ≡ wrappingAdd (r .pc) s → next ≡ wrappingAdd (r .pc) (e / 256) → v ≡ withPc r next
         → Executed (effectOf (actionOf n) (operandFrom (modeOf k) from m) v m) q m m′ → stepOf r m ≡ stepped q (e % 256) m′
     unfolding effect
     executes t k mode {from} {next} {v} {q} {m′} ef en ev x =

@@ -2,14 +2,14 @@
 -- Assumes nothing.
 use mathlib.Core.List.{List}
 use Prim.Native.Nat.{ℕ}
-use Rattle.registers.specs.Word.{plus, less}
+use Rattle.registers.specs.Word.{wrappingAdd, wrappingSub, targetOf}
 use Rattle.registers.specs.declared.Registers.{Registers}
 use Rattle.memory.specs.Memory.{byteAt, wordAt, withByte}
 use Rattle.opcodes.specs.Rows.{rows}
 use Rattle.opcodes.specs.Tables.{costs, actions, modes, costAt, actionAt, modeAt}
 use Rattle.opcodes.specs.Conditions.{truthWords, holdsOf}
 use Rattle.opcodes.specs.Decode.{pageOf, placeOf, opcodeSize, operandOf, instructionOf, decodeAt}
-use Rattle.opcodes.specs.Form.{targetOf, addressIn, targetIn, formOf}
+use Rattle.opcodes.specs.Form.{addressIn, targetIn, formOf}
 use Rattle.arithmetic.specs.Byte.{add8Of, sub8Of}
 use Rattle.arithmetic.specs.Word.{add16Of, sub16Of, mulOf}
 use Rattle.arithmetic.specs.Decimal.{daaOf}
@@ -23,7 +23,7 @@ use Rattle.stepper.specs.Step.{carriedOut, didOf, stepOf, After}
 use Rattle.stepper.specs.Run.{runFrom, runOf, AfterRun}
 
 unfoldable pub stepNow : Registers → List ℕ → After
-unfolding plus less byteAt wordAt withByte rows costs actions modes costAt actionAt modeAt truthWords holdsOf pageOf placeOf opcodeSize operandOf instructionOf decodeAt targetOf addressIn targetIn formOf add8Of sub8Of add16Of sub16Of mulOf daaOf idivOf fdivOf addressOf operandAddress byteOperand wordOperand maskOf readsOf inputOf replaced inherentOf accumulatorOf withAccumulator indexOf withIndex wordOf toWord outcomeOf stackedOf interruptedOf resumedOf effectBy effectOf carriedOut didOf
+unfolding wrappingAdd wrappingSub byteAt wordAt withByte rows costs actions modes costAt actionAt modeAt truthWords holdsOf pageOf placeOf opcodeSize operandOf instructionOf decodeAt targetOf addressIn targetIn formOf add8Of sub8Of add16Of sub16Of mulOf daaOf idivOf fdivOf addressOf operandAddress byteOperand wordOperand maskOf readsOf inputOf replaced inherentOf accumulatorOf withAccumulator indexOf withIndex wordOf toWord outcomeOf stackedOf interruptedOf resumedOf effectBy effectOf carriedOut didOf
 stepNow r m = stepOf r m
 
 unfoldable pub runNow : Registers → List ℕ → ℕ → AfterRun

@@ -4,3 +4,4 @@ pub mod Run
 pub mod Advance
 pub mod Steps
 pub mod Computed
+pub mod Record

@@ -5,7 +5,7 @@ use mathlib.Core.Bool.{Bool, true, false}
 use mathlib.Core.List.{List}
 use lib.Dec.{eqb}
 use lib.ListN.{length}
-use Rattle.registers.specs.Word.{plus}
+use Rattle.registers.specs.Word.{wrappingAdd}
 use Rattle.registers.specs.Registers.{withPc}
 use Rattle.registers.specs.declared.Registers.{Registers}
 use Rattle.memory.specs.Memory.{byteAt, Store, applied}
@@ -19,7 +19,7 @@ use Rattle.stepper.specs.Answer.{Answer, done, refused}
 
 -- the bytes from an address on; the address wraps
 abbrev pub fetched : List ℕ → ℕ → Bytes
-fetched m pc = λ i. byteAt m (plus pc i)
+fetched m pc = λ i. byteAt m (wrappingAdd pc i)
 
 -- the registers afterwards, the stores in order and the cycles; or a refusal's number and place
 pub data Did : Type 0 where
@@ -35,7 +35,7 @@ executed false pc e k = did (e .regs) (e .stores) k
 unfoldable pub carriedOut : ℕ → Decoded → Registers → List ℕ → Did
 carriedOut p Nothing r m = stopped 22 (r .pc)
 carriedOut p (Instruction a o) r m =
-    let q = withPc r (plus (r .pc) (lengthAt p)) in
+    let q = withPc r (wrappingAdd (r .pc) (lengthAt p)) in
     executed (waits (formOf a o (q .pc))) (r .pc) (effectOf a o q m) (cyclesAt p)
 
 abbrev pub didIf : Bool → Registers → List ℕ → Did

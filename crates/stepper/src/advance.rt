@@ -2,7 +2,7 @@
 // an enum that held the registers would go through memory at every turn.
 ghost use mathlib.Core.Path.{_≡_};
 ghost use lib.ListN.{length};
-ghost use Rattle.registers.specs.Word.{plus};
+ghost use Rattle.registers.specs.Word.{wrappingAdd};
 ghost use Rattle.memory.specs.Memory.{byteAt};
 ghost use Rattle.opcodes.specs.Tables.{costs};
 ghost use Rattle.opcodes.specs.Numbers.{actionOf};
@@ -22,7 +22,7 @@ use opcodes::table::costs;
 use opcodes::table::modes;
 use registers::Cycles;
 use registers::Registers;
-use registers::word::up;
+use registers::word::wrapping_add;
 
 // Whether a number stands for WAI, STOP or TEST: these have the last numbers.
 fn waits(n: u8) -> bool
@@ -35,9 +35,9 @@ fn waits(n: u8) -> bool
 pub fn find(mem: &[u8], pc: u16, tc: &[u16; 1024]) -> Found
     requires { ⌜ length (now mem) ≡ 65536 ⌝ }
     requires { ⌜ now tc ≡ costs ⌝ }
-    ensures { λ q. ⌜ q ≡ foundOf (byteAt (now (mem .entry)) pc) (byteAt (now (mem .entry)) (plus pc 1)) ⌝ }
+    ensures { λ q. ⌜ q ≡ foundOf (byteAt (now (mem .entry)) pc) (byteAt (now (mem .entry)) (wrappingAdd pc 1)) ⌝ }
 {
-    found_of(byte_at(mem, pc), byte_at(mem, up(pc, 1)), tc)
+    found_of(byte_at(mem, pc), byte_at(mem, wrapping_add(pc, 1)), tc)
 }
 
 // The next instruction, wherever it stands, and those after it until home.
@@ -68,8 +68,8 @@ pub fn go(r: Registers, mem: &mut [u8], budget: u32) -> Ran
                 q = execute(
                     n,
                     mode_number_at(place, &tm),
-                    up(pc, size),
-                    q.with_pc(up(pc, (e / 256) as u16)),
+                    wrapping_add(pc, size),
+                    q.with_pc(wrapping_add(pc, (e / 256) as u16)),
                     mem,
                 );
                 left = left - k;

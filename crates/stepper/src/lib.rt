@@ -17,6 +17,7 @@ use registers::Registers;
 
 pub mod answer; // what a step and a run answer
 mod advance; // the loop over the instructions
+pub mod record;
 
 // What the loop answers with the next instruction's own cycles as its budget: no second instruction is begun. Where no cycle is spent the
 // instruction itself is refused.

@@ -3,5 +3,8 @@ pub mod Spelled
 mod Backward
 mod Letters
 mod Patterns
-mod Columns
+mod ListingColumns
 pub mod Listed
+mod VerdictParts
+pub mod VerdictsApart
+mod Written

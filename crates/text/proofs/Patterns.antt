@@ -3,9 +3,9 @@
 use mathlib.Core.Path.{_≡_, refl}
 use mathlib.Core.List.{List}
 use Prim.Native.Nat.{ℕ}
-use Rattle.opcodes.specs.Form.{targetOf}
+use Rattle.registers.specs.Word.{targetOf}
 use Rattle.opcodes.specs.declared.instruction.Mode.the-variants as Mode
-use Rattle.ticket.specs.Write.{spliced}
+use Rattle.lists.specs.Splice.{spliced}
 use Rattle.text.specs.Text.{ascii}
 use Rattle.text.specs.Number.{byteHex, hexOf}
 use Rattle.text.specs.Operand.{operandText}

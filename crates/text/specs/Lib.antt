@@ -3,3 +3,9 @@ pub mod Number
 pub mod Mnemonic
 pub mod Operand
 pub mod Listing
+pub mod Verdict
+pub mod Line
+pub mod Columns
+pub mod Step
+pub mod Last
+pub mod Summary

@@ -5,7 +5,7 @@ use mathlib.Core.List.{List, [], _∷_, _++_}
 use mathlib.Core.Bool.{Bool, cond}
 use lib.Dec.{eqb}
 use lib.ListN.{take, getD}
-use Rattle.registers.specs.Word.{plus}
+use Rattle.registers.specs.Word.{wrappingAdd}
 use Rattle.opcodes.specs.Tables.{costAt, lengthAt, actionAt, modeAt}
 use Rattle.opcodes.specs.Decode.{Bytes, opcodeSize, placeIn}
 use Rattle.text.specs.declared.listing.Listing.{Listing}
@@ -38,7 +38,7 @@ listingAt pc place n f =
     record {
       bytes = bytesText (lengthAt place) f;
       mnemonic = mnemonicOf (actionAt place) (modeAt place);
-      operand = operandText (modeAt place) (f n) (f (n + 1)) (f (n + 2)) (plus pc (lengthAt place));
+      operand = operandText (modeAt place) (f n) (f (n + 1)) (f (n + 2)) (wrappingAdd pc (lengthAt place));
     }
 
 -- no instruction where the table has 0

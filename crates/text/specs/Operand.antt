@@ -2,7 +2,7 @@
 -- Assumes nothing.
 use Prim.Native.Nat.{ℕ}
 use mathlib.Core.List.{List, [], _++_}
-use Rattle.opcodes.specs.Form.{targetOf}
+use Rattle.registers.specs.Word.{targetOf}
 use Rattle.opcodes.specs.declared.instruction.Mode.{Mode}
 use Rattle.opcodes.specs.declared.instruction.Mode.the-variants as Mode
 use Rattle.text.specs.Text.{ascii, padded}

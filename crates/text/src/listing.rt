@@ -8,14 +8,14 @@ ghost use Rattle.text.specs.Listing.{bytesText, five, listingOf, columnO
 use crate::mnemonic::mnemonic;
 use crate::number::hex2;
 use crate::operand::operand;
-use decoder::action_at;
-use decoder::mode_at;
 use opcodes::decode::Found;
 use opcodes::decode::found_of;
+use opcodes::decoder::action_at;
+use opcodes::decoder::mode_at;
 use opcodes::table::actions;
 use opcodes::table::costs;
 use opcodes::table::modes;
-use registers::word::up;
+use registers::word::wrapping_add;
 
 // Its bytes in hexadecimal, its mnemonic and its operand, each padded with spaces.
 pub struct Listing {
@@ -88,7 +88,7 @@ pub fn list(pc: u16, a: u8, b: u8, c: u8, d: u8, e: u8) -> Listing
         Found::At(place, n, k) => {
             let size = (k / 256) as u16;
             let text = bytes(size, a, b, c, d, e);
-            let next = up(pc, size);
+            let next = wrapping_add(pc, size);
             if n == 1 {
                 listed(place, text, b, c, d, next)
             } else {

@@ -1,14 +1,14 @@
 // An operand, padded with spaces to 17 bytes: a pattern for each mode, with digits in it.
 ghost use mathlib.Core.Path.{_≡_};
 ghost use Prim.Native.Nat.{_+_, _≤_};
-ghost use Rattle.ticket.specs.Write.{spliced};
+ghost use Rattle.lists.specs.Splice.{spliced};
 ghost use Rattle.text.specs.Number.{byteHex, hexOf};
 ghost use Rattle.text.specs.Operand.{operandText};
 use crate::number::hex2;
 use crate::number::put_hex;
 use crate::number::put_text;
-use instructions::operand::target;
 use opcodes::instruction::Mode;
+use registers::word::target;
 
 // A 0 wherever a digit goes. Extended and relative operands are addresses.
 const INHERENT: [u8; 17] = *b"                 ";

@@ -10,7 +10,7 @@ use lib.ListN.{length, getD, length-append}
 use borrow.Author.Tests.{le-leb, lt-leb}
 use Rattle.commands.specs.declared.command.Command.{Command}
 use Rattle.commands.specs.declared.command.Command.the-variants as Command
-use Rattle.commands.specs.declared.command.Refusal.{Refusal}
+use Rattle.answers.specs.declared.Refusal.{Refusal}
 use Rattle.commands.specs.declared.prefix.Prefix.{Prefix}
 use Rattle.commands.specs.declared.admit.Admitted.{Admitted}
 use Rattle.commands.specs.declared.admit.Admitted.the-variants.{Refused, Next}
@@ -21,7 +21,8 @@ use Rattle.commands.proofs.Sound.{sound-then}
 use Rattle.ticket.specs.declared.fields.Mark.{Mark}
 use Rattle.ticket.specs.declared.answer.Written.the-variants as Written
 use Rattle.ticket.specs.Fields.{Fields, blankMark, placeOf, listed}
-use Rattle.ticket.specs.Write.{headerCommands, commandsAt, markCommands, commandsOf, encodeAll, bytesOf, allThen, checkOf, writeOf, spliced, outputOf}
+use Rattle.ticket.specs.Write.{headerCommands, commandsAt, markCommands, commandsOf, encodeAll, bytesOf, allThen, checkOf, writeOf, outputOf}
+use Rattle.lists.specs.Splice.{spliced}
 use Rattle.ticket.proofs.Stage.{by-admission}
 use Rattle.ticket.proofs.Snoc.{commands-snoc}
 use Rattle.ticket.proofs.ReadWritten.{refused-stays}

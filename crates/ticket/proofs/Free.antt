@@ -6,7 +6,7 @@ use mathlib.Core.List.{List, [], _∷_}
 use lib.Dec.{eqb}
 use borrow.Author.Tests.{eqb-true, eq-eqb}
 use Rattle.commands.specs.declared.command.Command.{Command}
-use Rattle.commands.specs.declared.command.Refusal.{Refusal}
+use Rattle.answers.specs.declared.Refusal.{Refusal}
 use Rattle.commands.specs.declared.prefix.Prefix.{Prefix}
 use Rattle.commands.specs.declared.admit.Admitted.the-variants.{Refused, Next}
 use Rattle.commands.specs.Prefix.{afterOf}

@@ -14,8 +14,8 @@ pub mod ReadLoop
 pub mod Checks
 pub mod Free
 pub mod WrittenRead
-pub mod Splice
 pub mod Parts
 pub mod Says
 pub mod Readable
 pub mod Accepts
+mod Placed

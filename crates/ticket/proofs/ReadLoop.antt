@@ -10,7 +10,7 @@ use lib.ListN.{length, getD, set, drop, replicate, length-drop, drop-of-length-l
 use lib.Seq.{drop-drop, drop-cons}
 use borrow.Author.Tests.{ne-eqb}
 use Rattle.commands.specs.declared.command.Command.{Command}
-use Rattle.commands.specs.declared.command.Refusal.{Refusal}
+use Rattle.answers.specs.declared.Refusal.{Refusal}
 use Rattle.commands.specs.declared.command.Decoded.the-variants.{Found}
 use Rattle.commands.specs.declared.prefix.Prefix.{Prefix}
 use Rattle.commands.specs.Bytes.{decodeOf, widthOf}

@@ -8,7 +8,7 @@ use lib.ListN.{length, getD, replicate}
 use Rattle.commands.specs.declared.command.Claim.{Claim}
 use Rattle.commands.specs.declared.command.Command.{Command}
 use Rattle.commands.specs.declared.command.Command.the-variants as Command
-use Rattle.commands.specs.declared.command.Refusal.{Refusal}
+use Rattle.answers.specs.declared.Refusal.{Refusal}
 use Rattle.commands.specs.declared.prefix.Header.{Header}
 use Rattle.commands.specs.Prefix.{blankHeader}
 use Rattle.ticket.specs.declared.fields.Name.{Name}

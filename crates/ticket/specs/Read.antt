@@ -7,7 +7,7 @@ use mathlib.Core.List.{List, [], _∷_}
 use lib.Dec.{eqb}
 use lib.ListN.{length, drop}
 use Rattle.commands.specs.declared.command.Command.{Command}
-use Rattle.commands.specs.declared.command.Refusal.{Refusal}
+use Rattle.answers.specs.declared.Refusal.{Refusal}
 use Rattle.commands.specs.declared.command.Decoded.{Decoded}
 use Rattle.commands.specs.declared.command.Decoded.the-variants.{Unknown, Cut, Found}
 use Rattle.commands.specs.declared.prefix.Prefix.{Prefix}

@@ -69,10 +69,6 @@ writtenIf (Next p) n room = cond (leb n room) (Written.Length n) (Written.Refuse
 unfoldable pub writeOf : Fields → ℕ → Written
 writeOf f room = writtenIf (checkOf f) (length (bytesOf f)) room
 
--- a list with another in place of as many elements from an index on
-unfoldable pub spliced : List ℕ → ℕ → List ℕ → List ℕ
-spliced old at new = take at old ++ (new ++ drop (at + length new) old)
-
 abbrev pub outputIf : Written → Fields → List ℕ → List ℕ
 outputIf (Written.Length n) f out = bytesOf f ++ drop n out
 outputIf (Written.Refused r) f out = out

@@ -1,6 +1,6 @@
 // What reading and writing answer.
 use crate::fields::Ticket;
-use commands::command::Refusal;
+use answers::Refusal;
 
 pub enum Answer {
     Read,

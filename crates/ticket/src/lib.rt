@@ -19,8 +19,8 @@ use crate::reader::refused;
 use crate::reader::slot;
 use crate::writer::check;
 use crate::writer::put;
+use answers::refuse;
 use commands::admit::Admitted;
-use commands::command::refuse;
 use commands::prefix::start;
 
 pub mod answer; // what reading and writing answer

@@ -11,13 +11,13 @@ use crate::fields::Mark;
 use crate::fields::Name;
 use crate::fields::Ticket;
 use crate::fields::blank;
-use coding::decode::decode;
+use answers::Refusal;
+use answers::refuse;
 use commands::admit::Admitted;
 use commands::admit::admit;
 use commands::command::Command;
 use commands::command::Decoded;
-use commands::command::Refusal;
-use commands::command::refuse;
+use commands::decode::decode;
 use commands::prefix::Header;
 use commands::prefix::Prefix;
 

@@ -1,5 +1,5 @@
 // Answers as text.
-use commands::command::Refusal;
+use answers::Refusal;
 use output::decimal;
 use output::text;
 

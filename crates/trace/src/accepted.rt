@@ -9,21 +9,21 @@ use libc::STDOUT_FILENO;
 use registers::Cycles;
 use registers::Registers;
 use registers::StackBytes;
-use registers::word::down;
-use registers::word::up;
+use registers::word::wrapping_add;
+use registers::word::wrapping_sub;
 use stepper::answer::Ran;
 use stepper::run;
+use text::last::Totals;
+use text::last::put_home;
+use text::last::put_spent;
 use ticket::fields::Ticket;
 use ticket::read;
-use tracelines::last::Totals;
-use tracelines::last::put_home;
-use tracelines::last::put_spent;
 use verdict::Started;
 use verdict::start_routine;
 
 // The stack bytes used: from the stack window's last address, two above the start's SP, down to the lowest SP.
 fn used(r: Registers, s: Reached) -> StackBytes {
-    StackBytes(down(up(r.sp, 2), s.lowest))
+    StackBytes(wrapping_sub(wrapping_add(r.sp, 2), s.lowest))
 }
 
 fn home(t: Totals) {

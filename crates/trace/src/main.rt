@@ -1,13 +1,13 @@
 // The desk stepper: reads press.bin and press.tkt from the folder it is run in and, where the routine is accepted, runs it from its start and prints one line for each
 // instruction; where it is refused, the refusal and the instruction at the place. docs/WORKSHOPS.md explains the lines and the arguments.
 use accepted::accepted;
+use answers::Verdict;
 use files::load;
 use files::unfit;
 use io::write_all;
 use libc::STDERR_FILENO;
 use options::Options;
 use refused::refused;
-use rules::Verdict;
 use verdict::verdict;
 
 mod accepted; // a routine that is accepted

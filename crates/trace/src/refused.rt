@@ -1,15 +1,15 @@
 // A routine that is refused: the line of the checking program, and the instruction at the place.
 ghost use Prim.Native.Nat.{_<_};
-use commands::command::Refusal;
+use answers::Refusal;
+use answers::Verdict;
 use commands::command::Window;
 use io::write_all;
 use libc::STDOUT_FILENO;
-use lines::answer::put_verdict;
-use rules::Verdict;
 use text::listing::list;
+use text::place::put_place;
+use text::verdict::put_verdict;
 use ticket::answer::Answer;
 use ticket::read;
-use tracelines::place::put_place;
 
 // The byte at an index of the image; past its end there are zeros, as the checks have it.
 fn byte(image: &[u8], i: usize) -> u8 {

@@ -5,18 +5,18 @@ use io::write_all;
 use libc::STDOUT_FILENO;
 use measure::look::measure;
 use memory::byte_at;
-use registerrecord::Advanced;
-use registerrecord::advance_copy;
 use registers::Cycles;
 use registers::Registers;
-use registers::word::up;
+use registers::word::wrapping_add;
+use stepper::record::Advanced;
+use stepper::record::advance_copy;
 use text::listing::Listing;
 use text::listing::list;
+use text::step::Traced;
+use text::step::put_step;
+use text::summary::Visits;
+use text::summary::put_summary;
 use ticket::fields::Ticket;
-use tracelines::step::Traced;
-use tracelines::step::put_step;
-use tracelines::summary::Visits;
-use tracelines::summary::put_summary;
 
 // The registers reached, the cycles spent and the lowest SP so far; of the last instruction, where its mark stands and the cycles to go from it.
 pub struct Reached {
@@ -31,10 +31,10 @@ fn listing_at(mem: &[u8; 65536], a: u16) -> Listing {
     list(
         a,
         byte_at(mem, a),
-        byte_at(mem, up(a, 1)),
-        byte_at(mem, up(a, 2)),
-        byte_at(mem, up(a, 3)),
-        byte_at(mem, up(a, 4)),
+        byte_at(mem, wrapping_add(a, 1)),
+        byte_at(mem, wrapping_add(a, 2)),
+        byte_at(mem, wrapping_add(a, 3)),
+        byte_at(mem, wrapping_add(a, 4)),
     )
 }
 

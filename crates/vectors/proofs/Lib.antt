@@ -1,1 +1,4 @@
 pub mod Text
+pub mod Alike
+pub mod Stores
+pub mod Holding

@@ -1,2 +1,5 @@
 pub mod Count
 pub mod Text
+pub mod Hex
+pub mod Line
+pub mod Vector

@@ -4,14 +4,14 @@ use Prim.Native.Nat.{ℕ, _<_, _≤_}
 use mathlib.Core.Path.{_≡_}
 use mathlib.Core.List.{List, [], _∷_, _++_}
 use lib.ListN.{length, take}
-use Rattle.vector.specs.Line.{kindIn}
-use Rattle.vector.specs.Vector.{Judged}
+use Rattle.vectors.specs.Line.{kindIn}
+use Rattle.vectors.specs.Vector.{Judged}
 use Rattle.vectors.specs.Count.{countedOf}
 use Rattle.vectors.specs.declared.count.Counts.{Counts}
 use Rattle.vectors.specs.declared.reader.Read.{Read}
 use Rattle.vectors.specs.declared.reader.State.{State}
 use Rattle.vectors.specs.declared.reader.Read.the-variants.{More, End, Failed}
-use Rattle.vector.specs.declared.verdict.Verdict.{Verdict}
+use Rattle.vectors.specs.declared.verdict.Verdict.{Verdict}
 
 -- a line is counted by its verdict
 abbrev pub Counted : List ℕ → Counts → Counts → Type 0

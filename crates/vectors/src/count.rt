@@ -3,8 +3,8 @@ ghost use mathlib.Core.Path.{_≡_};
 ghost use lib.ListN.{set, getD};
 ghost use Prim.Native.Nat.{_<_};
 ghost use Rattle.vectors.specs.Count.{next, none, confirmedOf, countedOf};
+use crate::verdict::Verdict;
 use std::num::wrapping_add_u32;
-use vector::verdict::Verdict;
 
 pub struct Counts {
     pub vectors: u32,

@@ -1,4 +1,5 @@
 // The places of the opcode maps: which of them hold an instruction, and how many vectors each has.
+use crate::loaded::background;
 use check::same;
 use memory::put_byte;
 use output::counted;
@@ -9,7 +10,6 @@ use std::num::wrapping_add_u32;
 use stepper::answer::Refusal;
 use stepper::answer::Stepped;
 use stepper::step;
-use vector::loaded::background;
 
 // What a step at $8000 comes to, with a refusal only where it names PC and kept memory.
 enum Stands {

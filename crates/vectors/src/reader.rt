@@ -7,13 +7,13 @@ use crate::count::Counts;
 use crate::count::counted;
 use crate::count::none;
 use crate::count::note;
+use crate::hex::byte_in;
+use crate::loaded::place_in;
 use crate::report::difference;
+use crate::verdict::Verdict;
+use crate::verdict::judge;
 use output::text;
 use std::num::wrapping_add_u32;
-use vector::hex::byte_in;
-use vector::loaded::place_in;
-use vector::verdict::Verdict;
-use vector::verdict::judge;
 
 // How many bytes of a line are in the buffer, and what is counted of the lines before it.
 struct State {

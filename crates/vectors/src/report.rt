@@ -1,5 +1,11 @@
 // A difference by its line and place: what differs, what was expected and what step answered.
-ghost use Rattle.vector.specs.Line.{Shaped};
+ghost use Rattle.vectors.specs.Line.{Shaped};
+use crate::compare::same_registers;
+use crate::hex::byte_in;
+use crate::hex::registers_in;
+use crate::loaded::expected_in;
+use crate::loaded::memory_in;
+use crate::loaded::place_in;
 use output::byte;
 use output::decimal;
 use output::registers;
@@ -10,12 +16,6 @@ use registers::Registers;
 use stepper::answer::Refusal;
 use stepper::answer::Stepped;
 use stepper::step;
-use vector::compare::same_registers;
-use vector::hex::byte_in;
-use vector::hex::registers_in;
-use vector::loaded::expected_in;
-use vector::loaded::memory_in;
-use vector::loaded::place_in;
 
 fn without_flags(r: Registers) -> Registers {
     let mut q = r;

@@ -9,12 +9,12 @@ use lib.Dec.{eqb}
 use lib.ListN.{length}
 use Rattle.registers.specs.declared.Data.{Data}
 use Rattle.registers.specs.declared.Registers.{Registers}
-use Rattle.commands.specs.declared.command.Refusal.{Refusal}
+use Rattle.answers.specs.declared.Refusal.{Refusal}
 use Rattle.commands.specs.declared.prefix.Header.{Header}
 use Rattle.ticket.specs.Fields.{Outcome, read, refused}
 use Rattle.ticket.specs.Read.{refusal, readOf}
-use Rattle.rules.specs.declared.Verdict.{Verdict}
-use Rattle.rules.specs.declared.Verdict.the-variants.{Accept, Refuse}
+use Rattle.answers.specs.declared.Verdict.{Verdict}
+use Rattle.answers.specs.declared.Verdict.the-variants.{Accept, Refuse}
 use Rattle.rules.specs.Checks.{judgedOf, verdictBy, verdictOf}
 use Rattle.verdict.specs.declared.Admission.{Admission}
 use Rattle.verdict.specs.declared.Admission.the-variants as Admission

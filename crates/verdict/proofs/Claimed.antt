@@ -9,7 +9,7 @@ use lib.ListN.{length, getD, set, length-set}
 use lib.Seq.{getD-set-same, getD-set-other}
 use Rattle.registers.specs.declared.Data.{Data}
 use Rattle.registers.specs.Registers.{startOf}
-use Rattle.registers.specs.Word.{plus}
+use Rattle.registers.specs.Word.{wrappingAdd}
 use Rattle.memory.specs.Memory.{byteAt, withByte, applied}
 use Rattle.commands.specs.declared.prefix.Header.{Header}
 use Rattle.ticket.specs.Fields.{Fields}
@@ -51,7 +51,7 @@ module _ (f : Fields) (image m : List ℕ) (A : Accepted f image) (size : length
   whole : length filled ≡ 65536
   whole = length-applied (imageStores (f .header .code .start) image) m ∙ size
 
-  stored : (i : ℕ) → i < length image → byteAt filled (plus (f .header .code .start) i) ≡ getD image i 0
+  stored : (i : ℕ) → i < length image → byteAt filled (wrappingAdd (f .header .code .start) i) ≡ getD image i 0
   stored i h =
       let H = A .readable .header-rules in
       image-read (f .header .code .start) image m i (omega (arith, H .code-edge, A .image-length)) (omega (arith, H .code-edge, A .image-length)) size h

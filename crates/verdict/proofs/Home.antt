@@ -12,13 +12,13 @@ use Rattle.registers.specs.declared.Cycles.{Cycles}
 use Rattle.registers.specs.declared.Data.{Data}
 use Rattle.registers.specs.declared.Registers.{Registers}
 use Rattle.registers.specs.declared.StackBytes.{StackBytes}
-use Rattle.commands.specs.declared.command.Refusal.{Refusal}
+use Rattle.answers.specs.declared.Refusal.{Refusal}
 use Rattle.commands.specs.Number.{AllBytes}
 use Rattle.ticket.specs.Fields.{Fields, Outcome, read, refused}
 use Rattle.ticket.specs.Read.{refusal, readOf}
 use Rattle.ticket.proofs.Accepts.{read-rules}
-use Rattle.rules.specs.declared.Verdict.{Verdict}
-use Rattle.rules.specs.declared.Verdict.the-variants.{Accept, Refuse}
+use Rattle.answers.specs.declared.Verdict.{Verdict}
+use Rattle.answers.specs.declared.Verdict.the-variants.{Accept, Refuse}
 use Rattle.rules.specs.Checks.{judgedOf, verdictBy, verdictOf}
 use Rattle.rules.proofs.Sound.{accepted}
 use Rattle.rules.proofs.Demand.{comes-home}

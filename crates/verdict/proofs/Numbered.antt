@@ -22,8 +22,8 @@ use Rattle.commands.specs.declared.admit.Admitted.the-variants.{Refused, Next}
 use Rattle.ticket.specs.declared.fields.Mark.{Mark}
 use Rattle.ticket.specs.Fields.{Fields}
 use Rattle.ticket.specs.Read.{refusal, admittedAs, decodedAs, turnOf, endOf, Rest, onward, ifEnded, readFrom, readOf}
-use Rattle.rules.specs.declared.Verdict.{Verdict}
-use Rattle.rules.specs.declared.Verdict.the-variants.{Accept, Refuse}
+use Rattle.answers.specs.declared.Verdict.{Verdict}
+use Rattle.answers.specs.declared.Verdict.the-variants.{Accept, Refuse}
 use Rattle.rules.specs.Marks.{claimAt}
 use Rattle.rules.specs.Checks.{Check, firstOf, checksAt, checksOfMarks, wholeChecks, checksOf, acceptOf, judgedOf, verdictBy, verdictOf}
 use Rattle.verdict.specs.Promise.{RefusalsNumbered}

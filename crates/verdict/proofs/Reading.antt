@@ -4,7 +4,7 @@ use Prim.Native.Nat.{ℕ, _≤_}
 use mathlib.Core.Path.{_≡_, refl, ap, _∙_}
 use mathlib.Core.Bool.{true≢false}
 use mathlib.Core.List.{List}
-use Rattle.commands.specs.declared.command.Refusal.{Refusal}
+use Rattle.answers.specs.declared.Refusal.{Refusal}
 use Rattle.ticket.specs.declared.answer.Answer.the-variants.{Read, Refused}
 use Rattle.ticket.specs.declared.answer.Reading.{Reading}
 use Rattle.ticket.specs.Fields.{Fields, Outcome, read, refused, ticketOf, fieldsOf, readingOf}

@@ -6,7 +6,7 @@ use mathlib.Core.List.{List, [], _∷_}
 use native.Mathlib.Omega.{arith}
 use lib.ListN.{length, getD, set, length-set}
 use lib.Seq.{getD-set-same}
-use Rattle.registers.specs.Word.{plus, less}
+use Rattle.registers.specs.Word.{wrappingAdd, wrappingSub}
 use Rattle.registers.proofs.Wrap.{plus-zero}
 use Rattle.memory.specs.Memory.{Store, store, byteAt, withByte, applied}
 use Rattle.commands.proofs.Every.{every-map}
@@ -19,18 +19,18 @@ use Rattle.verdict.specs.Start.{lastOf, imageStores}
 
 -- a store to one of n addresses from a on
 abbrev pub Among : ℕ → ℕ → Store → Type 0
-Among a n w = (i : ℕ) × (i < n) × (w .at ≡ plus a i)
+Among a n w = (i : ℕ) × (i < n) × (w .at ≡ wrappingAdd a i)
 
-wraps : (a : ℕ) → plus a 1 < 65536
-unfolding plus
+wraps : (a : ℕ) → wrappingAdd a 1 < 65536
+unfolding wrappingAdd
 wraps a = omega arith
 
-after : (a i : ℕ) → plus (plus a 1) i ≡ plus a (suc i)
-unfolding plus
+after : (a i : ℕ) → wrappingAdd (wrappingAdd a 1) i ≡ wrappingAdd a (suc i)
+unfolding wrappingAdd
 after a i = omega arith
 
-apart : (a i : ℕ) → a < 65536 → i < 65535 → plus a (suc i) ≡ a → ⊥
-unfolding plus
+apart : (a i : ℕ) → a < 65536 → i < 65535 → wrappingAdd a (suc i) ≡ a → ⊥
+unfolding wrappingAdd
 apart a i h l e = omega arith
 
 pub image-among : (a : ℕ) (bs : List ℕ) → a < 65536 → Every (Among a (length bs)) (imageStores a bs)
@@ -38,18 +38,18 @@ image-among a [] h = none
 image-among a (b ∷ bs) h =
     more
     (0, omega arith, sym (plus-zero a h))
-    (every-map (λ w p. (suc (p .0), omega (arith, p .1), p .2 ∙ after a (p .0))) (image-among (plus a 1) bs (wraps a)))
+    (every-map (λ w p. (suc (p .0), omega (arith, p .1), p .2 ∙ after a (p .0))) (image-among (wrappingAdd a 1) bs (wraps a)))
 
 pub image-read : (a : ℕ) (bs m : List ℕ) (i : ℕ) → a < 65536 → length bs ≤ 65536 → length m ≡ 65536 → i < length bs
-    → byteAt (applied (imageStores a bs) m) (plus a i) ≡ getD bs i 0
+    → byteAt (applied (imageStores a bs) m) (wrappingAdd a i) ≡ getD bs i 0
 unfolding byteAt withByte
 image-read a [] m i h l s o = absurd (omega arith)
 image-read a (b ∷ bs) m zero h l s o =
-    let away : Every (λ w. w .at ≡ a → ⊥) (imageStores (plus a 1) bs) =
-    every-map (λ w p e. apart a (p .0) h (omega (arith, p .1)) (sym (p .2 ∙ after a (p .0)) ∙ e)) (image-among (plus a 1) bs (wraps a)) in
+    let away : Every (λ w. w .at ≡ a → ⊥) (imageStores (wrappingAdd a 1) bs) =
+    every-map (λ w p e. apart a (p .0) h (omega (arith, p .1)) (sym (p .2 ∙ after a (p .0)) ∙ e)) (image-among (wrappingAdd a 1) bs (wraps a)) in
     rw (plus-zero a h) (byte-applied (set m a b) a away ∙ getD-set-same m a b 0 (omega arith))
 image-read a (b ∷ bs) m (suc i) h l s o =
-    rw (← after a i) (image-read (plus a 1) bs (set m a b) i (wraps a) (omega arith) (length-set m a b ∙ s) (omega arith))
+    rw (← after a i) (image-read (wrappingAdd a 1) bs (set m a b) i (wraps a) (omega arith) (length-set m a b ∙ s) (omega arith))
 
 -- home's stores, where nothing wraps
 abbrev pub homeOf : Fields → List Store
@@ -57,13 +57,13 @@ homeOf f = store (topOf f) 0 ∷ store (topOf f - 1) 0 ∷ []
 
 module _ (f : Fields) (H : HeaderRules (f .header)) where
   pub last-is : lastOf (f .header .stack) ≡ topOf f
-  unfolding plus less
+  unfolding wrappingAdd wrappingSub
   last-is = omega (arith, H .stack-length .0, H .stack-edge)
 
-  pub under-is : less (topOf f) 1 ≡ topOf f - 1
-  unfolding less
+  pub under-is : wrappingSub (topOf f) 1 ≡ topOf f - 1
+  unfolding wrappingSub
   under-is = omega (arith, H .stack-length .0, H .stack-edge)
 
-  pub code-is : (i : ℕ) → i < f .header .code .length → plus (f .header .code .start) i ≡ f .header .code .start + i
-  unfolding plus
+  pub code-is : (i : ℕ) → i < f .header .code .length → wrappingAdd (f .header .code .start) i ≡ f .header .code .start + i
+  unfolding wrappingAdd
   code-is i h = omega (arith, H .code-edge)

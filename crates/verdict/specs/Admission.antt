@@ -6,8 +6,8 @@ use mathlib.Core.List.{List}
 use Rattle.commands.specs.declared.prefix.Header.{Header}
 use Rattle.ticket.specs.Fields.{Outcome, read, refused}
 use Rattle.ticket.specs.Read.{readOf}
-use Rattle.rules.specs.declared.Verdict.{Verdict}
-use Rattle.rules.specs.declared.Verdict.the-variants.{Accept, Refuse}
+use Rattle.answers.specs.declared.Verdict.{Verdict}
+use Rattle.answers.specs.declared.Verdict.the-variants.{Accept, Refuse}
 use Rattle.rules.specs.Checks.{judgedOf}
 use Rattle.verdict.specs.declared.Admission.{Admission}
 use Rattle.verdict.specs.declared.Admission.the-variants.{Granted, Refused}

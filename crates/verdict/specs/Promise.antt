@@ -6,8 +6,8 @@ use mathlib.Core.Logic.{_↔_}
 use mathlib.Core.List.{List}
 use Rattle.registers.specs.declared.Cycles.{Cycles}
 use Rattle.registers.specs.declared.StackBytes.{StackBytes}
-use Rattle.commands.specs.declared.command.Refusal.{Refusal}
-use Rattle.rules.specs.declared.Verdict.the-variants.{Accept, Refuse}
+use Rattle.answers.specs.declared.Refusal.{Refusal}
+use Rattle.answers.specs.declared.Verdict.the-variants.{Accept, Refuse}
 use Rattle.rules.specs.Rules.{Certified}
 use Rattle.rules.specs.Checks.{verdictOf}
 use Rattle.rules.specs.Claim.{Demand3}

@@ -8,7 +8,7 @@ use lib.Dec.{eqb}
 use lib.ListN.{length}
 use Rattle.registers.specs.declared.Data.{Data}
 use Rattle.registers.specs.Registers.{startOf}
-use Rattle.registers.specs.Word.{plus, less}
+use Rattle.registers.specs.Word.{wrappingAdd, wrappingSub}
 use Rattle.memory.specs.Memory.{Store, store, applied}
 use Rattle.commands.specs.declared.command.Window.{Window}
 use Rattle.commands.specs.declared.prefix.Header.{Header}
@@ -21,16 +21,16 @@ use Rattle.verdict.specs.declared.Started.the-variants.{At, Refused}
 
 -- a window's last address; of the stack window, T
 abbrev pub lastOf : Window → ℕ
-lastOf w = less (plus (w .start) (w .length)) 1
+lastOf w = wrappingSub (wrappingAdd (w .start) (w .length)) 1
 
 -- bytes to an address and those after it
 abbrev pub imageStores : ℕ → List ℕ → List Store
 imageStores a [] = []
-imageStores a (b ∷ bs) = store a b ∷ imageStores (plus a 1) bs
+imageStores a (b ∷ bs) = store a b ∷ imageStores (wrappingAdd a 1) bs
 
 -- home: zeros at T and T - 1
 abbrev pub homeStores : ℕ → List Store
-homeStores top = store top 0 ∷ store (less top 1) 0 ∷ []
+homeStores top = store top 0 ∷ store (wrappingSub top 1) 0 ∷ []
 
 -- 21: memory not 65,536 bytes; then 9: the image's length is not the code window's
 abbrev pub bySize : {A : Type 0} → Header → List ℕ → List ℕ → A → A → A → A

@@ -9,15 +9,15 @@ ghost use Rattle.verdict.specs.Routine.{begun, begunOf, StartedComesHome
 use crate::load::fill;
 use crate::load::last_of;
 use crate::load::put_home;
+use answers::Refusal;
+use answers::Verdict;
+use answers::refuse;
 use checks::judge::judge;
-use commands::command::Refusal;
-use commands::command::refuse;
 use commands::prefix::Header;
 use registers::Cycles;
 use registers::Data;
 use registers::Registers;
 use registers::StackBytes;
-use rules::Verdict;
 use ticket::answer::Answer;
 use ticket::read;
 

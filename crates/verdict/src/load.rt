@@ -5,14 +5,14 @@ ghost use Rattle.memory.specs.Memory.{applied};
 ghost use Rattle.verdict.specs.Start.{lastOf, imageStores, homeStores};
 use commands::command::Window;
 use memory::put_byte;
-use registers::word::down;
-use registers::word::up;
+use registers::word::wrapping_add;
+use registers::word::wrapping_sub;
 
 // A window's last address.
 pub fn last_of(w: Window) -> u16
     ensures { λ r. ⌜ r ≡ lastOf w ⌝ }
 {
-    down(up(w.start, w.length), 1)
+    wrapping_sub(wrapping_add(w.start, w.length), 1)
 }
 
 // The image's bytes, from an address on.
@@ -24,7 +24,7 @@ pub fn fill(from: u16, image: &[u8], memory: &mut [u8])
     let mut at = from;
     while i < image.len() {
         put_byte(memory, at, image[i]);
-        at = up(at, 1);
+        at = wrapping_add(at, 1);
         i += 1;
     }
 }
@@ -35,5 +35,5 @@ pub fn put_home(top: u16, memory: &mut [u8])
     ensures { λ _. ⌜ (now (memory .exit) ≡ applied (homeStores top) (now (memory .entry))) × (length (now (memory .exit)) ≡ 65536) ⌝ }
 {
     put_byte(memory, top, 0);
-    put_byte(memory, down(top, 1), 0);
+    put_byte(memory, wrapping_sub(top, 1), 0);
 }

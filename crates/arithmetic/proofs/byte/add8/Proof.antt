@@ -4,7 +4,7 @@ use borrow.Author.Needs.{needs}
 use mathlib.Core.Path.{refl}
 use Prim.Native.Nat.{_+_, _%_}
 use native.Mathlib.Omega.{arith}
-use Rattle.registers.specs.Flags.{one}
+use Rattle.lists.specs.Bit.{one}
 use Rattle.arithmetic.specs.Byte.{add8Of}
 use Rattle.arithmetic.proofs.Carries.{carry-test}
 use Rattle.arithmetic.proofs.byte.add8.Statement.{statement}

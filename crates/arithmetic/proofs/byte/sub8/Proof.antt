@@ -5,7 +5,7 @@ use mathlib.Core.Bool.{Bool·not-not}
 use mathlib.Core.Path.{refl}
 use Prim.Native.Nat.{_+_, _-_, _%_}
 use native.Mathlib.Omega.{arith}
-use Rattle.registers.specs.Flags.{one}
+use Rattle.lists.specs.Bit.{one}
 use Rattle.arithmetic.specs.Byte.{sub8Of}
 use Rattle.arithmetic.proofs.Carries.{borrow-test}
 use Rattle.arithmetic.proofs.byte.sub8.Statement.{statement}

@@ -5,15 +5,15 @@ use mathlib.Core.Bool.{false, Bool·not-not}
 use mathlib.Core.Path.{_≡_, refl}
 use Prim.Native.Nat.{ℕ, _+_, _-_, _%_, _<_}
 use native.Mathlib.Omega.{arith}
-use Rattle.registers.specs.Word.{less}
+use Rattle.registers.specs.Word.{wrappingSub}
 use Rattle.arithmetic.specs.Word.{sub16Of}
 use Rattle.arithmetic.proofs.Carries.{borrow-test}
 use Rattle.arithmetic.proofs.word.sub16.Statement.{statement}
 use Rattle.arithmetic.proofs.word.sub16.Tie as tie
 
 -- the difference as the definition of SUBD writes it
-difference : (x m : ℕ) → m < 65536 → less x m ≡ (x + 65536 - m) % 65536
-unfolding less
+difference : (x m : ℕ) → m < 65536 → wrappingSub x m ≡ (x + 65536 - m) % 65536
+unfolding wrappingSub
 difference x m h = omega arith
 
 returns : tie.Need-returns
@@ -23,7 +23,7 @@ returns c =
     simp (
       c .coded .ensures,
       c .before .overflow .ensures,
-      c .before .before .down .ensures,
+      c .before .before .wrapping-sub .ensures,
       difference (a .x) (a .m) (omega arith),
       Bool·not-not,
       borrow-test 15 (a .x) (a .m) ((a .x + 65536 - a .m) % 65536) (a .m) false (omega arith) (omega arith) (omega arith) refl,

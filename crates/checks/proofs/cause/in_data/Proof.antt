@@ -15,5 +15,5 @@ in-data-spec =
       c .before .before .before .before .x2 .given .1,
       c .before .before .holds2 .ensures,
       c .holds3 .ensures,
-      c .before .up .ensures,
+      c .before .wrapping-add .ensures,
     )))

@@ -10,4 +10,4 @@ unfolding opened
 call-spec =
     tie.close
     (tie.spec (search needs) (search needs) (search needs) (search needs)
-    (λ c o s. (simp (c .with-pc-sp .ensures, c .before .down .ensures, s), cc)))
+    (λ c o s. (simp (c .with-pc-sp .ensures, c .before .wrapping-sub .ensures, s), cc)))

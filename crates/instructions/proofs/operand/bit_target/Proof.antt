@@ -8,4 +8,4 @@ pub bit-target-spec : {M : Type 1} → statement M
 bit-target-spec =
     tie.close
     (tie.spec (search needs) (search needs) (search needs)
-    (λ c. simp (c .target .ensures, c .before .byte-at .ensures, c .before .before .up .ensures)))
+    (λ c. simp (c .target .ensures, c .before .byte-at .ensures, c .before .before .wrapping-add .ensures)))

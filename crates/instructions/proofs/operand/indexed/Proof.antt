@@ -8,4 +8,4 @@ pub indexed-spec : {M : Type 1} → statement M
 indexed-spec =
     tie.close
     (tie.spec (search needs) (search needs) (search needs)
-    (λ c. simp (c .up .ensures, c .before .byte-at .ensures)))
+    (λ c. simp (c .wrapping-add .ensures, c .before .byte-at .ensures)))

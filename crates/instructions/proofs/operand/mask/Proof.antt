@@ -8,4 +8,4 @@ pub mask-spec : {M : Type 1} → statement M
 mask-spec =
     tie.close
     (tie.spec (search needs) (search needs)
-    (λ c. simp (c .byte-at .ensures, c .before .up .ensures)))
+    (λ c. simp (c .byte-at .ensures, c .before .wrapping-add .ensures)))

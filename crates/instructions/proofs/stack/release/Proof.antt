@@ -11,4 +11,4 @@ unfolding opened
 release-spec =
     tie.close
     (tie.spec (search needs) (search needs)
-    (λ c m o. (simp (c .with-sp .ensures, c .before .up .ensures), refl)))
+    (λ c m o. (simp (c .with-sp .ensures, c .before .wrapping-add .ensures), refl)))

@@ -11,4 +11,4 @@ unfolding opened
 reserve-spec =
     tie.close
     (tie.spec (search needs) (search needs)
-    (λ c m o. (simp (c .with-sp .ensures, c .before .down .ensures), refl)))
+    (λ c m o. (simp (c .with-sp .ensures, c .before .wrapping-sub .ensures), refl)))

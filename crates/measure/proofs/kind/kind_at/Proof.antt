@@ -18,7 +18,7 @@ found : (c : tie.After-found-of) → let z = called c .args in foundOf (bytes (z
 found c =
     let u = c .before .before .before in
     simp
-    (plus-zero (called c .args .pc) (search needs), ← u .up .ensures, ← u .before .byte-at .ensures, ← c .before .before .byte-at2 .ensures, ← c .found-of .ensures)
+    (plus-zero (called c .args .pc) (search needs), ← u .wrapping-add .ensures, ← u .before .byte-at .ensures, ← c .before .before .byte-at2 .ensures, ← c .found-of .ensures)
 
 add-up : tie.Need-add-up
 add-up c =
@@ -49,7 +49,7 @@ returns-2 c =
     let p = u .before .before .before in
     let h = found (p .before .before) ∙ p .place .given .1 in
     simp
-    (there-kind _ _ h, ← u .before .up2 .ensures, ← v .before .up3 .ensures, ← w .before .up4 .ensures, ← u .byte-at3 .ensures, ← v .byte-at4 .ensures, ← w .byte-at5 .ensures)
+    (there-kind _ _ h, ← u .before .wrapping-add2 .ensures, ← v .before .wrapping-add3 .ensures, ← w .before .wrapping-add4 .ensures, ← u .byte-at3 .ensures, ← v .byte-at4 .ensures, ← w .byte-at5 .ensures)
     (c .kind-found .ensures)
 
 pub kind-at-spec : {M : Type 1} → statement M

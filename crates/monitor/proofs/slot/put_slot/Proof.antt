@@ -8,8 +8,8 @@ use lib.ListN.{length}
 use Rattle.registers.specs.declared.Cycles.{Cycles}
 use Rattle.registers.specs.declared.StackBytes.{StackBytes}
 use Rattle.commands.specs.declared.prefix.Header.{Header}
-use Rattle.registerbytes.specs.Bytes.{withWord}
-use Rattle.registerbytes.proofs.Elements.{all-elements}
+use Rattle.monitor.specs.Bytes.{withWord}
+use Rattle.monitor.proofs.Elements.{all-elements}
 use Rattle.monitor.specs.Slot.{slotOf, withLong, withWindow}
 use Rattle.monitor.proofs.slot.put_slot.Statement.{statement}
 use Rattle.monitor.proofs.slot.put_slot.Tie as tie

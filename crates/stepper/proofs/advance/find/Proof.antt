@@ -7,8 +7,8 @@ use Rattle.stepper.proofs.advance.find.Tie as tie
 byte-at-requires : tie.Need-byte-at-requires
 byte-at-requires c κs = search needs
 
-up-requires : tie.Need-up-requires
-up-requires c κs = search needs
+wrapping-add-requires : tie.Need-wrapping-add-requires
+wrapping-add-requires c κs = search needs
 
 byte-at-requires-2 : tie.Need-byte-at-requires-2
 byte-at-requires-2 c κs = search needs
@@ -17,8 +17,8 @@ found-of-requires : tie.Need-found-of-requires
 found-of-requires c κs = search needs
 
 returns : tie.Need-returns
-returns c = simp (c .found-of .ensures, c .before .byte-at2 .ensures, c .before .before .up .ensures, c .before .before .before .byte-at .ensures)
+returns c = simp (c .found-of .ensures, c .before .byte-at2 .ensures, c .before .before .wrapping-add .ensures, c .before .before .before .byte-at .ensures)
 
 pub find-spec : {M : Type 1} → statement M
 find-spec =
-    tie.close (tie.spec byte-at-requires up-requires byte-at-requires-2 found-of-requires returns)
+    tie.close (tie.spec byte-at-requires wrapping-add-requires byte-at-requires-2 found-of-requires returns)

@@ -54,7 +54,7 @@ executed c =
     let n = w .before .number-at in
     let k = c .before .before .before .before .before .mode-number-at in
     executes (here (placed w)) (n .result) (n .ensures) (w .waits .ensures) (passed c .before .if1 .left)
-    (k .result) (k .ensures) (c .before .before .before .before .up .ensures) (c .before .before .before .up2 .ensures)
+    (k .result) (k .ensures) (c .before .before .before .before .wrapping-add .ensures) (c .before .before .before .wrapping-add2 .ensures)
     (c .before .before .with-pc .ensures) (c .execute .ensures)
 
 loop-holds : tie.Need-loop-holds Inv-loop μ-loop

@@ -1,7 +1,7 @@
 -- `bytes` meets its contract: each column is its byte's.
 -- Assumes nothing.
 use borrow.Author.Needs.{needs}
-use Rattle.text.proofs.Columns.{shown}
+use Rattle.text.proofs.ListingColumns.{shown}
 use Rattle.text.proofs.listing.bytes.Statement.{statement}
 use Rattle.text.proofs.listing.bytes.Tie as tie
 

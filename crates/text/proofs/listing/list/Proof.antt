@@ -48,7 +48,7 @@ returns-2 c =
     let p = u .before .before .before in
     let d = p .before .before in
     let h = sym (d .found-of .ensures) ∙ p .place .given .1 in
-    simp (there (bytes d) h, c .listed .ensures, u .before .bytes2 .ensures, u .up .ensures, entry _ _ h, c .before .if1 .taken)
+    simp (there (bytes d) h, c .listed .ensures, u .before .bytes2 .ensures, u .wrapping-add .ensures, entry _ _ h, c .before .if1 .taken)
 
 returns-3 : tie.Need-returns-3
 returns-3 c =
@@ -57,7 +57,7 @@ returns-3 c =
     let d = p .before .before in
     let h = sym (d .found-of .ensures) ∙ p .place .given .1 in
     let two = ⊎-elim (λ e. absurd (c .before .if1 .left e)) (λ e. e) (size (bytes d) h) in
-    simp (there (bytes d) h, c .listed2 .ensures, u .before .bytes2 .ensures, u .up .ensures, entry _ _ h, two)
+    simp (there (bytes d) h, c .listed2 .ensures, u .before .bytes2 .ensures, u .wrapping-add .ensures, entry _ _ h, two)
 
 pub list-spec : {M : Type 1} → statement M
 list-spec =

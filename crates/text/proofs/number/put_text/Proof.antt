@@ -7,7 +7,7 @@ use native.Mathlib.Omega.{arith}
 use native.Mathlib.Numerals.{add-one}
 use lib.ListN.{length, length-set}
 use lib.Seq.{paste, paste-zero, paste-suc}
-use Rattle.ticket.proofs.Splice.{paste-spliced}
+use Rattle.lists.proofs.Splice.{paste-spliced}
 use Rattle.text.proofs.number.put_text.Statement.{statement}
 use Rattle.text.proofs.number.put_text.Tie as tie
 

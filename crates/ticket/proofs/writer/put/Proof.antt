@@ -11,7 +11,8 @@ use Rattle.commands.specs.declared.command.Command.the-variants as Command
 use Rattle.commands.specs.Bytes.{widthOf}
 use Rattle.ticket.specs.Write.{headerCommands, encodeAll}
 use Rattle.ticket.proofs.Place.{place-below}
-use Rattle.ticket.proofs.Splice.{Placed, placed-none, placed-next, placed-command}
+use Rattle.lists.proofs.Splice.{Placed, placed-none, placed-next}
+use Rattle.ticket.proofs.Placed.{placed-command}
 use Rattle.ticket.proofs.Parts.{marksBytes, marks-more, end-room, mark-room, length-header, ticket-parts}
 use Rattle.ticket.proofs.writer.put.Statement.{statement}
 use Rattle.ticket.proofs.writer.put.Tie as tie

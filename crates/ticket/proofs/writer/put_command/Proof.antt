@@ -12,7 +12,7 @@ use Rattle.commands.specs.declared.command.Command.{Command}
 use Rattle.commands.specs.declared.command.Command.the-variants as Command
 use Rattle.commands.specs.Bytes.{encodeOf, widthOf, padded}
 use Rattle.commands.proofs.Coding.{length-encode}
-use Rattle.ticket.proofs.Splice.{paste-spliced}
+use Rattle.lists.proofs.Splice.{paste-spliced}
 use Rattle.ticket.proofs.writer.put_command.Statement.{statement}
 use Rattle.ticket.proofs.writer.put_command.Tie as tie
 

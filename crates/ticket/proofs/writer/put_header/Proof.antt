@@ -6,7 +6,8 @@ use borrow.Author.Needs.{needs}
 use Rattle.commands.specs.declared.command.Kind.the-variants.{Code, Data, Stack}
 use Rattle.commands.specs.declared.command.Command.the-variants as Command
 use Rattle.commands.specs.Bytes.{widthOf}
-use Rattle.ticket.proofs.Splice.{placed-none, placed-command}
+use Rattle.lists.proofs.Splice.{placed-none}
+use Rattle.ticket.proofs.Placed.{placed-command}
 use Rattle.ticket.proofs.writer.put_header.Statement.{statement}
 use Rattle.ticket.proofs.writer.put_header.Tie as tie
 

@@ -13,7 +13,8 @@ use Rattle.commands.proofs.Coding.{length-encode}
 use Rattle.ticket.specs.declared.fields.Name.the-variants.{Absent, Text}
 use Rattle.ticket.specs.declared.fields.Mark.{Mark}
 use Rattle.ticket.specs.Write.{nameCommands, commandsAt, encodeAll}
-use Rattle.ticket.proofs.Splice.{placed-none, placed-command}
+use Rattle.lists.proofs.Splice.{placed-none}
+use Rattle.ticket.proofs.Placed.{placed-command}
 use Rattle.ticket.proofs.writer.put_mark.Statement.{statement}
 use Rattle.ticket.proofs.writer.put_mark.Tie as tie
 

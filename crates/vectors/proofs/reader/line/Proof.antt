@@ -5,7 +5,7 @@ use Prim.Native.Nat.{ℕ}
 use native.Mathlib.Omega.{arith}
 use borrow.Author.Needs.{needs}
 use Rattle.vectors.specs.Count.{countedOf}
-use Rattle.vector.specs.declared.verdict.Verdict.the-variants.{Malformed, Differs, Agrees}
+use Rattle.vectors.specs.declared.verdict.Verdict.the-variants.{Malformed, Differs, Agrees}
 use Rattle.vectors.proofs.reader.line.Statement.{statement}
 use Rattle.vectors.proofs.reader.line.Tie as tie
 

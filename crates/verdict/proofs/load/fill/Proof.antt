@@ -7,7 +7,7 @@ use mathlib.Core.Path.{_≡_, sym, _∙_}
 use mathlib.Core.List.{List, []}
 use lib.ListN.{length, getD, drop, drop-of-length-le}
 use lib.Seq.{drop-cons}
-use Rattle.registers.specs.Word.{plus}
+use Rattle.registers.specs.Word.{wrappingAdd}
 use Rattle.memory.specs.Memory.{withByte, applied}
 use Rattle.verdict.specs.Start.{imageStores}
 use Rattle.verdict.proofs.load.fill.Statement.{statement}
@@ -21,7 +21,7 @@ abbrev μ-loop : tie.MeasureT-loop
 μ-loop from image memory₀ i₀ at₀ memory i at = length image - i
 
 next-byte : (a i : ℕ) (bs m : List ℕ) → i < length bs
-    → applied (imageStores a (drop i bs)) m ≡ applied (imageStores (plus a 1) (drop (i + 1) bs)) (withByte m a (getD bs i 0))
+    → applied (imageStores a (drop i bs)) m ≡ applied (imageStores (wrappingAdd a 1) (drop (i + 1) bs)) (withByte m a (getD bs i 0))
 next-byte a i bs m h = rw (add-one, drop-cons bs i 0 h)
 
 loop-again : tie.Need-loop-again Inv-loop μ-loop
@@ -30,7 +30,7 @@ loop-again c =
     let l = p .before .before .before .before in
     let image = l .before .before .before .args .image .now in
     let next = next-byte (l .loop .at) (l .loop .i) image (l .loop .memory) (search needs) in
-    (search needs, rw (c .up .ensures, p .put-byte .ensures .0) (sym next ∙ l .loop .inv .1), p .put-byte .ensures .1)
+    (search needs, rw (c .wrapping-add .ensures, p .put-byte .ensures .0) (sym next ∙ l .loop .inv .1), p .put-byte .ensures .1)
 
 returns : tie.Need-returns Inv-loop μ-loop
 returns c =

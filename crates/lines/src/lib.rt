@@ -1,2 +1,0 @@
-// An inner crate: the verdict as text, on a lent buffer.
-pub mod answer; // the checking program's line

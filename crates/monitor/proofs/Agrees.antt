@@ -1,0 +1,49 @@
+-- On 11 register bytes a call says what the stepper says, of a memory of another length too: the monitor adds no rule of its own.
+-- Assumes nothing.
+use mathlib.Core.Path.{_≡_, refl}
+use mathlib.Core.Bool.{Bool, true, false}
+use mathlib.Core.List.{List}
+use Prim.Native.Nat.{ℕ, _<_}
+use lib.Dec.{eqb}
+use lib.ListN.{length, getD}
+use borrow.Author.Tests.{eq-eqb}
+use Rattle.stepper.specs.Step.{didOf, stepOf}
+use Rattle.stepper.specs.Run.{runOf}
+use Rattle.monitor.specs.Bytes.{unpacked}
+use Rattle.monitor.specs.Calls.{Called, called, ofStep, ofRun, stepBytesOf, runBytesOf}
+use Rattle.monitor.proofs.RoundTrip.{packed-unpacked}
+
+module _ (c p : ℕ) (rs m : List ℕ) (h : length rs ≡ 11) where
+  step-by : (b : Bool) → eqb (length m) 65536 ≡ b
+      → stepBytesOf c p rs m ≡ ofStep (stepOf (unpacked rs) m .answer) c p rs (stepOf (unpacked rs) m .memory)
+  unfolding stepBytesOf stepOf didOf
+  step-by true e = simp (eq-eqb _ _ h, e)
+  step-by false e = simp (eq-eqb _ _ h, e)
+
+  pub step-agrees : stepBytesOf c p rs m
+      ≡ ofStep (stepOf (unpacked rs) m .answer) c p rs (stepOf (unpacked rs) m .memory)
+  step-agrees = step-by (eqb (length m) 65536) refl
+
+-- but for the cycles: of a memory of another length the stepper's run answers 0, and the call leaves them as they were
+-- lent
+abbrev pub uncounted : Called → Called
+uncounted a = called (a .outcome) 0 (a .place) (a .registers) (a .memory)
+
+module _ (c p : ℕ) (rs m : List ℕ) (budget : ℕ) (h : length rs ≡ 11) where
+  pub run-agrees : length m ≡ 65536
+      → runBytesOf c p rs m budget
+      ≡ ofRun (runOf (unpacked rs) m budget .answer) p (runOf (unpacked rs) m budget .memory)
+  unfolding runBytesOf
+  run-agrees g = simp (eq-eqb _ _ h, eq-eqb _ _ g)
+
+  run-by : ((i : ℕ) → getD rs i 0 < 256) → (b : Bool) → eqb (length m) 65536 ≡ b
+      → uncounted (runBytesOf c p rs m budget)
+      ≡ uncounted (ofRun (runOf (unpacked rs) m budget .answer) p (runOf (unpacked rs) m budget .memory))
+  unfolding runBytesOf runOf
+  run-by bytes true e = simp (eq-eqb _ _ h, e)
+  run-by bytes false e = simp (eq-eqb _ _ h, e, packed-unpacked rs bytes h)
+
+  pub run-agrees-uncounted : ((i : ℕ) → getD rs i 0 < 256)
+      → uncounted (runBytesOf c p rs m budget)
+      ≡ uncounted (ofRun (runOf (unpacked rs) m budget .answer) p (runOf (unpacked rs) m budget .memory))
+  run-agrees-uncounted bytes = run-by bytes (eqb (length m) 65536) refl

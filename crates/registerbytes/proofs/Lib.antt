@@ -1,5 +1,0 @@
-pub mod Elements
-pub mod RoundTrip
-pub mod Sized
-pub mod Agrees
-pub mod Apart

@@ -1,0 +1,32 @@
+-- The line of an address: how often it was executed, and the least and the most cycles to its routine's own return that were seen there.
+-- Assumes nothing.
+use Prim.Native.Nat.{ℕ, _+_}
+use mathlib.Core.Bool.{cond}
+use mathlib.Core.List.{List, [], _++_}
+use lib.Dec.{eqb, ltb}
+use Rattle.text.specs.declared.listing.Listing.{Listing}
+use Rattle.text.specs.Text.{ascii}
+use Rattle.text.specs.declared.summary.Visits.{Visits}
+use Rattle.text.specs.Line.{fieldText}
+use Rattle.text.specs.Columns.{listingText}
+
+abbrev pub lesserOf : ℕ → ℕ → ℕ
+lesserOf a b = cond (ltb a b) a b
+
+abbrev pub greaterOf : ℕ → ℕ → ℕ
+greaterOf a b = cond (ltb b a) a b
+
+-- one visit more, with so many cycles to go
+abbrev pub visitedOf : Visits → ℕ → Visits
+visitedOf v go =
+    cond (eqb (v .times) 0) (record { times = 1; least = go; most = go })
+    (record { times = v .times + 1; least = lesserOf (v .least) go; most = greaterOf (v .most) go })
+
+-- of an address that was never executed there is nothing more to say
+unfoldable pub visitsText : Visits → List ℕ
+visitsText v =
+    fieldText (ascii " times=") (v .times)
+    ++ cond (eqb (v .times) 0) [] (fieldText (ascii " least=") (v .least) ++ fieldText (ascii " most=") (v .most))
+
+unfoldable pub summaryLine : (address : ℕ) → Listing → Visits → (cost : ℕ) → List ℕ
+summaryLine a l v cost = listingText a l ++ (visitsText v ++ (fieldText (ascii " cost=") cost ++ ascii "\n"))

@@ -1,5 +1,0 @@
-pub mod Line
-pub mod Columns
-pub mod Step
-pub mod Last
-pub mod Summary

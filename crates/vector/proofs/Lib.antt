@@ -1,3 +1,0 @@
-pub mod Alike
-pub mod Stores
-pub mod Holding

@@ -1,0 +1,13 @@
+-- `byte_in` meets its contract.
+-- Assumes nothing.
+use borrow.Author.Needs.{needs}
+use Rattle.vectors.specs.Hex.{byteIn}
+use Rattle.vectors.proofs.hex.byte_in.Statement.{statement}
+use Rattle.vectors.proofs.hex.byte_in.Tie as tie
+
+returns : tie.Need-returns
+unfolding byteIn
+returns c = simp (c .value-in2 .ensures .0, c .before .value-in .ensures .0)
+
+pub byte-in-spec : {M : Type 1} → statement M
+byte-in-spec = tie.close (tie.spec (search needs) (search needs) (search needs) (search needs) (search needs) returns)

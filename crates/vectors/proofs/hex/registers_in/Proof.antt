@@ -1,0 +1,38 @@
+-- `registers_in` meets its contract.
+-- Assumes nothing.
+use borrow.Author.Needs.{needs}
+use Rattle.vectors.specs.Hex.{registersIn}
+use Rattle.vectors.proofs.hex.registers_in.Statement.{statement}
+use Rattle.vectors.proofs.hex.registers_in.Tie as tie
+
+returns : tie.Need-returns
+unfolding registersIn
+returns c =
+    simp (
+      c .byte-in3 .ensures,
+      c .before .byte-in2 .ensures,
+      c .before .before .byte-in .ensures,
+      c .before .before .before .word-in4 .ensures,
+      c .before .before .before .before .word-in3 .ensures,
+      c .before .before .before .before .before .word-in2 .ensures,
+      c .before .before .before .before .before .before .word-in .ensures,
+    )
+
+pub registers-in-spec : {M : Type 1} → statement M
+registers-in-spec =
+    tie.close
+    (tie.spec
+    (search needs)
+    (search needs)
+    (search needs)
+    (search needs)
+    (search needs)
+    (search needs)
+    (search needs)
+    (search needs)
+    (search needs)
+    (search needs)
+    (search needs)
+    (search needs)
+    (search needs)
+    returns)

@@ -1,0 +1,49 @@
+-- What a line says, and when it holds: a step from its registers and its memory comes to exactly its registers, its cycles and its memory (docs/SIMULATORS.md, "The file").
+-- Assumes nothing.
+use Prim.Native.Nat.{ℕ, zero, suc, _+_, _*_}
+use mathlib.Core.Path.{_≡_}
+use mathlib.Core.List.{List, [], _∷_}
+use lib.ListN.{replicate}
+use Rattle.registers.specs.Word.{wrappingAdd}
+use Rattle.memory.specs.Memory.{byteAt, Store, store, applied}
+use Rattle.opcodes.specs.Decode.{placeOf}
+use Rattle.stepper.specs.Answer.{done}
+use Rattle.stepper.specs.Step.{After, stepOf}
+use Rattle.vectors.specs.Hex.{byteIn, wordIn, registersIn}
+use Rattle.vectors.specs.Line.{Shaped, listedIn, writtenIn}
+use Rattle.vectors.specs.declared.verdict.Verdict.{Verdict}
+use Rattle.vectors.specs.declared.verdict.Verdict.the-variants.{Malformed, Differs, Agrees}
+
+-- n bytes with their addresses, each a group of six digits and a space
+unfoldable pub storesIn : List ℕ → ℕ → ℕ → List Store
+storesIn s i zero = []
+storesIn s i (suc n) = store (wordIn s i) (byteIn s (i + 4)) ∷ storesIn s (i + 7) n
+
+unfoldable pub background : List ℕ
+background = replicate 65536 0x3c
+
+-- every byte is $3C but for those listed
+unfoldable pub memoryIn : List ℕ → List ℕ
+memoryIn s = applied (storesIn s 55 (listedIn s)) background
+
+-- that, with the bytes written
+unfoldable pub expectedIn : List ℕ → List ℕ
+expectedIn s = applied (storesIn s (58 + 7 * listedIn s) (writtenIn s)) (memoryIn s)
+
+-- the place of the instruction at PC
+unfoldable pub placeIn : List ℕ → ℕ
+placeIn s =
+    let pc = registersIn s 6 .pc in
+    placeOf (byteAt (memoryIn s) pc) (byteAt (memoryIn s) (wrappingAdd pc 1))
+
+-- the registers, the cycles and the memory that are expected
+unfoldable pub afterIn : List ℕ → After
+afterIn s = record { answer = done (registersIn s 29) (record { 0 = byteIn s 3 }); memory = expectedIn s }
+
+abbrev pub Holds : List ℕ → Type 0
+Holds s = stepOf (registersIn s 6) (memoryIn s) ≡ afterIn s
+
+abbrev pub Judged : List ℕ → Verdict → Type 0
+Judged s Malformed = Shaped s → ⊥
+Judged s Differs = Shaped s × (Holds s → ⊥)
+Judged s Agrees = Shaped s × Holds s

@@ -1,0 +1,61 @@
+// Upper-case hexadecimal digits in a line, and the bytes, words and registers that they spell.
+ghost use mathlib.Core.Path.{_≡_};
+ghost use Prim.Native.Nat.{_+_, _≤_, _<_};
+ghost use lib.ListN.{length};
+ghost use Rattle.vectors.specs.Hex.{digitOf, valueIn, byteIn, wordIn, registersIn};
+use registers::Registers;
+
+// The value of a digit; 16 where the byte is none.
+pub fn digit(c: u8) -> u8
+    ensures { λ r. ⌜ (r ≡ digitOf c) × (r ≤ 16) ⌝ }
+{
+    if c < b'0' {
+        return 16;
+    }
+    if c <= b'9' {
+        return c - b'0';
+    }
+    if c < b'A' {
+        return 16;
+    }
+    if c <= b'F' {
+        return c - 55;
+    }
+    16
+}
+
+fn value_in(s: &[u8], i: usize) -> u8
+    requires { ⌜ i < length (now s) ⌝ }
+    ensures { λ r. ⌜ (r ≡ valueIn (now (s .entry)) i) × (r ≤ 15) ⌝ }
+{
+    digit(s[i]) % 16
+}
+
+pub fn byte_in(s: &[u8], i: usize) -> u8
+    requires { ⌜ i + 1 < length (now s) ⌝ }
+    ensures { λ r. ⌜ r ≡ byteIn (now (s .entry)) i ⌝ }
+{
+    value_in(s, i) * 16 + value_in(s, i + 1)
+}
+
+pub fn word_in(s: &[u8], i: usize) -> u16
+    requires { ⌜ i + 3 < length (now s) ⌝ }
+    ensures { λ r. ⌜ r ≡ wordIn (now (s .entry)) i ⌝ }
+{
+    (byte_in(s, i) as u16) * 256 + (byte_in(s, i + 2) as u16)
+}
+
+pub fn registers_in(s: &[u8], i: usize) -> Registers
+    requires { ⌜ i + 21 < length (now s) ⌝ }
+    ensures { λ r. ⌜ r ≡ registersIn (now (s .entry)) i ⌝ }
+{
+    Registers {
+        x: word_in(s, i + 4),
+        y: word_in(s, i + 8),
+        sp: word_in(s, i + 12),
+        pc: word_in(s, i + 16),
+        a: byte_in(s, i),
+        b: byte_in(s, i + 2),
+        flags: byte_in(s, i + 20),
+    }
+}
