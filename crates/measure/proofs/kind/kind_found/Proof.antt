@@ -6,8 +6,8 @@ use Rattle.opcodes.proofs.Rule.{entry-word}
 use Rattle.measure.proofs.kind.kind_found.Statement.{statement}
 use Rattle.measure.proofs.kind.kind_found.Tie as tie
 
-cast-up : tie.Need-cast-up
-cast-up c = omega (arith, entry-word (c .before .before .args .place))
+cast-wrapping-add : tie.Need-cast-wrapping-add
+cast-wrapping-add c = omega (arith, entry-word (c .before .before .args .place))
 
 returns : tie.Need-returns
 returns c =
@@ -23,7 +23,7 @@ pub kind-found-spec : {M : Type 1} → statement M
 kind-found-spec =
     tie.close
     (tie.spec (search needs) (search needs)
-    cast-up
+    cast-wrapping-add
     (search needs)
     (λ c κs. search needs)
     (search needs) (search needs) (search needs) (search needs)

@@ -108,8 +108,8 @@ mode-number-at-requires : tie.Need-mode-number-at-requires Inv-loop μ-loop
 mode-number-at-requires c κs =
     let p = placed (c .before .before .before) in (in-tables _ _ (here p .found), turn p .before .modes .ensures)
 
-cast-up : tie.Need-cast-up Inv-loop μ-loop
-cast-up c = omega (arith, length-word (here (placed (c .before .before .before .before .before))))
+cast-wrapping-add : tie.Need-cast-wrapping-add Inv-loop μ-loop
+cast-wrapping-add c = omega (arith, length-word (here (placed (c .before .before .before .before .before))))
 
 execute-requires : tie.Need-execute-requires Inv-loop μ-loop
 execute-requires c κs =
@@ -174,7 +174,7 @@ go-spec =
     returns-3
     mode-number-at-requires
     (search needs)
-    cast-up
+    cast-wrapping-add
     (search needs)
     (search needs)
     execute-requires

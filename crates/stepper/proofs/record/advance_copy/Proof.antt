@@ -53,9 +53,9 @@ use Rattle.stepper.proofs.record.Reached.Laws as T′
 use Rattle.stepper.proofs.record.Advanced as S
 use Rattle.stepper.proofs.record.advance as advance
 use Rattle.stepper.proofs.record.advance.Symbol as advance-def
-use Rattle.stepper.proofs.record.advance.Symbol.{name as #registerrecord·advance}
+use Rattle.stepper.proofs.record.advance.Symbol.{name as #stepper·record·advance}
 use Rattle.stepper.proofs.record.advance.Met as advance-thm
-use Rattle.stepper.proofs.record.advance_copy.Key.{name as #registerrecord·advance-copy}
+use Rattle.stepper.proofs.record.advance_copy.Key.{name as #stepper·record·advance-copy}
 use Rattle.stepper.proofs.record.advance_copy as advance-copy
 use Rattle.stepper.proofs.record.advance_copy.Statement as stated
 use Rattle.stepper.proofs.record.advance_copy.Code as code
@@ -122,7 +122,7 @@ module _ {M : Type 1} (𝓤 : URA M) (H : Heap 𝓤) (A : Atoms 𝓤) (W : Given
       nothing ! $ move ! (1 ∷ 0 ∷ []) $ fjoin ! $ has ! h is $ fjoin ! $
       owned ! T.the-row (Is T.the-row) (LL.makes T.the-type T′.the-plain 𝓤 H A) (both r u) _ is-both $ move ! (1 ∷ 0 ∷ []) $ done !
 
-  module _ (C : Calls 𝓤 H) (Λ : Loops 𝓤 H) (fm : FmC 𝓤 H (W .laws) C) (known : Triple 𝓤 (C #registerrecord·advance) (Advance 𝓤 H A at-mem run)) where
+  module _ (C : Calls 𝓤 H) (Λ : Loops 𝓤 H) (fm : FmC 𝓤 H (W .laws) C) (known : Triple 𝓤 (C #stepper·record·advance) (Advance 𝓤 H A at-mem run)) where
     walk : Room u8 (length ys) → ent 𝓤 (onEntry 𝓤 H A advance-copy.signature (κ, tt) (q, tt) a vals) (WpFn 𝓤 H C Λ code.function (mach h ∷ s ∷ []) Post)
     walk room =
         qed W ((‵ (flft κ q) ⊛ ‵ ftrue) ∷ ‵ (owns (R.the-row ∷ MutSlice (named 0) κ u8 ∷ []) a vals) ∷ []) ∵ enter ! C Λ code.function (mach h ∷ s ∷ []) _ $
@@ -154,12 +154,12 @@ module _ {M : Type 1} (𝓤 : URA M) (H : Heap 𝓤) (A : Atoms 𝓤) (W : Given
         keep ! (0 ∷ 1 ∷ []) $ by ! (exits (zs .0) u w (zs .1 .0) e l (made (zs .0) u w is-last is-answer))))))))))))))))))))
 
 module _ {M : Type 1} (𝓤 : URA M) (H : Heap 𝓤) (A : Atoms 𝓤) (W : Given 𝓤 H A) (mem : Memory → SProp 𝓤) (run : Routine → Fun 𝓤) where
-  advance-copy-walks : (C : Calls 𝓤 H) (Λ : Loops 𝓤 H) → FmC 𝓤 H (W .laws) C → Triple 𝓤 (C #registerrecord·advance) (Advance 𝓤 H A mem run) → Walks 𝓤 H A advance-copy.ended stayed (WpFn 𝓤 H C Λ code.function) (advance-copy.clauses 𝓤 H A mem run)
+  advance-copy-walks : (C : Calls 𝓤 H) (Λ : Loops 𝓤 H) → FmC 𝓤 H (W .laws) C → Triple 𝓤 (C #stepper·record·advance) (Advance 𝓤 H A mem run) → Walks 𝓤 H A advance-copy.ended stayed (WpFn 𝓤 H C Λ code.function) (advance-copy.clauses 𝓤 H A mem run)
   advance-copy-walks C Λ fm known = walked 𝓤 H A advance-copy.ended stayed (advance-copy.clauses 𝓤 H A mem run) (WpFn 𝓤 H C Λ code.function) (λ κs. (LL.vals R.the-type R′.the-laws, (slice-vals, tt))) (λ κs. (LL.tells R.the-type R′.the-laws, (mut-slice-tells (named 0) (κs .0) u8, tt)))
       (λ κs qs bounds a g are. via 𝓤 _ (fst∗ 𝓤 _ (emp 𝓤))
       (walk 𝓤 H A W mem run (κs .0) (qs .0) (a .0) (are .0) (a .1 .0 .ptr .0) (a .1 .0 .ptr .1) (a .1 .0 .name) (a .1 .0 .now) C Λ fm known (are .1 .0 .0 .1)))
 
-advance-copy-meets : {M : Type 1} (𝓤 : URA M) (H : Heap 𝓤) (A : Atoms 𝓤) → Given 𝓤 H A → (mem : Memory → SProp 𝓤) (run : Routine → Fun 𝓤) (𝓣 : Tables 𝓤 H) → Triple 𝓤 (𝓣 .C #registerrecord·advance) (Advance 𝓤 H A mem run)
+advance-copy-meets : {M : Type 1} (𝓤 : URA M) (H : Heap 𝓤) (A : Atoms 𝓤) → Given 𝓤 H A → (mem : Memory → SProp 𝓤) (run : Routine → Fun 𝓤) (𝓣 : Tables 𝓤 H) → Triple 𝓤 (𝓣 .C #stepper·record·advance) (Advance 𝓤 H A mem run)
     → Meets 𝓤 H A advance-copy.signature (WpFn 𝓤 H (𝓣 .C) (𝓣 .Λ) code.function) (advance-copy.spec 𝓤 H A mem run)
 advance-copy-meets 𝓤 H A W mem run 𝓣 known =
     walk-meets 𝓤 H A advance-copy.ended stayed W (goes-none 𝓤 H A W 1 (λ _. R.the-row) yes (λ κs x f. refl), (goes-gave-slice 𝓤 H A W 1 0 tt (plain (λ _. u8)), tt)) (advance-copy.clauses 𝓤 H A mem run)
@@ -169,6 +169,6 @@ pub advance-copy-spec : {M : Type 1} → stated.statement M
 unfolding code.routine tablesOf
 advance-copy-spec 𝓤 H 𝓜 𝓖 𝓡 =
     entered 𝓤 H (tripleOf 𝓤 H (𝓖 .A) advance-copy.signature (advance-copy.spec 𝓤 H (𝓖 .A) (𝓜 .mem) (𝓡 .run)))
-    (tables 𝓤 H 𝓜 𝓡 code.env .C) (tables 𝓤 H 𝓜 𝓡 code.env .Λ) #registerrecord·advance-copy code.function (code.unfolded 𝓤 H 𝓜 𝓡)
+    (tables 𝓤 H 𝓜 𝓡 code.env .C) (tables 𝓤 H 𝓜 𝓡 code.env .Λ) #stepper·record·advance-copy code.function (code.unfolded 𝓤 H 𝓜 𝓡)
     (advance-copy-meets 𝓤 H (𝓖 .A) (givenOf 𝓤 H 𝓜 𝓖) (𝓜 .mem) (𝓡 .run) (tablesOf 𝓤 H 𝓜 (tables 𝓤 H 𝓜 𝓡 code.env))
-    (cited 𝓤 H (Advance 𝓤 H (𝓖 .A) (𝓜 .mem) (𝓡 .run)) 𝓜 𝓡 code.env #registerrecord·advance advance-def.routine code.calls-registerrecord·advance (advance-thm.met 𝓤 H 𝓜 𝓖 𝓡)))
+    (cited 𝓤 H (Advance 𝓤 H (𝓖 .A) (𝓜 .mem) (𝓡 .run)) 𝓜 𝓡 code.env #stepper·record·advance advance-def.routine code.calls-stepper·record·advance (advance-thm.met 𝓤 H 𝓜 𝓖 𝓡)))
