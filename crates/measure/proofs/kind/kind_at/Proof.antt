@@ -20,14 +20,14 @@ found c =
     simp
     (plus-zero (called c .args .pc) (search needs), ← u .wrapping-add .ensures, ← u .before .byte-at .ensures, ← c .before .before .byte-at2 .ensures, ← c .found-of .ensures)
 
-add-up : tie.Need-add-up
-add-up c =
+add-wrapping-add : tie.Need-add-wrapping-add
+add-wrapping-add c =
     let p = c .before .before .before in
     let d = p .before .before in
     omega (arith, size-small _ _ (found d ∙ p .place .given .1))
 
-add-up-2 : tie.Need-add-up-2
-add-up-2 c =
+add-wrapping-add-2 : tie.Need-add-wrapping-add-2
+add-wrapping-add-2 c =
     let p = c .before .before .before .before .before in
     let d = p .before .before in
     omega (arith, size-small _ _ (found d ∙ p .place .given .1))
@@ -56,9 +56,9 @@ pub kind-at-spec : {M : Type 1} → statement M
 kind-at-spec =
     tie.close
     (tie.spec (search needs) (search needs) (search needs) (search needs) (λ c κs. search needs) (search needs) (search needs) (search needs) (search needs)
-    add-up
+    add-wrapping-add
     (search needs) (search needs)
-    add-up-2
+    add-wrapping-add-2
     (search needs) (search needs)
     kind-found-requires
     returns
