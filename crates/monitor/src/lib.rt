@@ -8,7 +8,6 @@ ghost use Rattle.monitor.specs.Routine.{judged, ofVerdict, beginning, st
 ghost use Rattle.monitor.specs.Routine.{filling, certifyBytesOf, startSlotOf};
 ghost use Rattle.monitor.specs.Home.{StartedBytesComeHome, FilledSlotComesHome, StartsFromFilledSlot};
 use crate::bytes::pack;
-use crate::calls;
 use answers::Verdict;
 use registers::Registers;
 use verdict::verdict;
