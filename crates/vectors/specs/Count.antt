@@ -4,8 +4,8 @@ use Prim.Native.Nat.{ℕ, _+_, _%_}
 use mathlib.Core.Bool.{cond}
 use lib.Dec.{eqb}
 use Rattle.vectors.specs.declared.count.Counts.{Counts}
-use Rattle.vectors.specs.declared.verdict.Verdict.{Verdict}
-use Rattle.vectors.specs.declared.verdict.Verdict.the-variants.{Malformed, Differs, Agrees}
+use Rattle.vectors.specs.declared.comparison.Comparison.{Comparison}
+use Rattle.vectors.specs.declared.comparison.Comparison.the-variants.{Malformed, Differs, Agrees}
 
 abbrev pub next : ℕ → ℕ
 next n = (n + 1) % 4294967296
@@ -26,7 +26,7 @@ confirmedOf c kind =
       differences = c .differences;
     }
 
-abbrev pub countedOf : Counts → ℕ → Verdict → Counts
+abbrev pub countedOf : Counts → ℕ → Comparison → Counts
 countedOf c kind Malformed =
     record {
       vectors = c .vectors;

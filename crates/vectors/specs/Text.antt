@@ -5,17 +5,17 @@ use mathlib.Core.Path.{_≡_}
 use mathlib.Core.List.{List, [], _∷_, _++_}
 use lib.ListN.{length, take}
 use Rattle.vectors.specs.Line.{kindIn}
-use Rattle.vectors.specs.Vector.{Judged}
+use Rattle.vectors.specs.Vector.{Compared}
 use Rattle.vectors.specs.Count.{countedOf}
 use Rattle.vectors.specs.declared.count.Counts.{Counts}
 use Rattle.vectors.specs.declared.reader.Read.{Read}
 use Rattle.vectors.specs.declared.reader.State.{State}
 use Rattle.vectors.specs.declared.reader.Read.the-variants.{More, End, Failed}
-use Rattle.vectors.specs.declared.verdict.Verdict.{Verdict}
+use Rattle.vectors.specs.declared.comparison.Comparison.{Comparison}
 
--- a line is counted by its verdict
+-- a line is counted by what comes of it
 abbrev pub Counted : List ℕ → Counts → Counts → Type 0
-Counted s c c′ = (v : Verdict) × Judged s v × (c′ ≡ countedOf c (kindIn s) v)
+Counted s c c′ = (v : Comparison) × Compared s v × (c′ ≡ countedOf c (kindIn s) v)
 
 pub record Reading : Type 0 where
   pub line : List ℕ

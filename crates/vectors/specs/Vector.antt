@@ -11,8 +11,8 @@ use Rattle.stepper.specs.Answer.{done}
 use Rattle.stepper.specs.Step.{After, stepOf}
 use Rattle.vectors.specs.Hex.{byteIn, wordIn, registersIn}
 use Rattle.vectors.specs.Line.{Shaped, listedIn, writtenIn}
-use Rattle.vectors.specs.declared.verdict.Verdict.{Verdict}
-use Rattle.vectors.specs.declared.verdict.Verdict.the-variants.{Malformed, Differs, Agrees}
+use Rattle.vectors.specs.declared.comparison.Comparison.{Comparison}
+use Rattle.vectors.specs.declared.comparison.Comparison.the-variants.{Malformed, Differs, Agrees}
 
 -- n bytes with their addresses, each a group of six digits and a space
 unfoldable pub storesIn : List ℕ → ℕ → ℕ → List Store
@@ -43,7 +43,7 @@ afterIn s = record { answer = done (registersIn s 29) (record { 0 = byteIn s 3 }
 abbrev pub Holds : List ℕ → Type 0
 Holds s = stepOf (registersIn s 6) (memoryIn s) ≡ afterIn s
 
-abbrev pub Judged : List ℕ → Verdict → Type 0
-Judged s Malformed = Shaped s → ⊥
-Judged s Differs = Shaped s × (Holds s → ⊥)
-Judged s Agrees = Shaped s × Holds s
+abbrev pub Compared : List ℕ → Comparison → Type 0
+Compared s Malformed = Shaped s → ⊥
+Compared s Differs = Shaped s × (Holds s → ⊥)
+Compared s Agrees = Shaped s × Holds s

@@ -1,9 +1,9 @@
-// What is counted: lines by their verdict, vectors by who confirmed them and by their place.
+// What is counted: lines by what comes of them, vectors by who confirmed them and by their place.
 ghost use mathlib.Core.Path.{_≡_};
 ghost use lib.ListN.{set, getD};
 ghost use Prim.Native.Nat.{_<_};
 ghost use Rattle.vectors.specs.Count.{next, none, confirmedOf, countedOf};
-use crate::verdict::Verdict;
+use crate::comparison::Comparison;
 use std::num::wrapping_add_u32;
 
 pub struct Counts {
@@ -53,22 +53,22 @@ fn confirmed(c: Counts, kind: u8) -> Counts
     n
 }
 
-// A line of a kind, with its verdict.
-pub fn counted(c: Counts, kind: u8, v: Verdict) -> Counts
+// A line of a kind, with what comes of it.
+pub fn counted(c: Counts, kind: u8, v: Comparison) -> Counts
     ensures { λ r. ⌜ r ≡ countedOf c kind v ⌝ }
 {
     match v {
-        Verdict::Malformed => {
+        Comparison::Malformed => {
             let mut n = c;
             n.malformed = wrapping_add_u32(n.malformed, 1);
             n
         }
-        Verdict::Differs => {
+        Comparison::Differs => {
             let mut n = confirmed(c, kind);
             n.differences = wrapping_add_u32(n.differences, 1);
             n
         }
-        Verdict::Agrees => confirmed(c, kind),
+        Comparison::Agrees => confirmed(c, kind),
     }
 }
 

@@ -3,15 +3,15 @@ use count::Counts;
 use output::counted;
 use output::text;
 
+mod hex; // digits, bytes, words and registers in a line
+mod line; // the shape of a line
+mod loaded; // the memory and the place that a line says
+mod compare; // whether a step comes to what a line says
+mod comparison; // what comes of a line
 mod count; // what is counted
-mod places; // the opcode maps
 mod reader; // the lines of a file
 mod report; // a difference
-pub mod compare; // whether a step comes to what a line says
-pub mod hex; // digits, bytes, words and registers in a line
-mod line; // the shape of a line
-pub mod loaded; // the memory and the place that a line says
-pub mod verdict; // the verdict on a line
+mod places; // the opcode maps
 
 fn summary(c: Counts, places: &[u32; 1024]) {
     counted(b"vectors: ", c.vectors as u64);

@@ -3,6 +3,8 @@ ghost use mathlib.Core.Path.{_≡_};
 ghost use Prim.Native.Nat.{_≤_};
 ghost use lib.ListN.{length};
 ghost use Rattle.vectors.specs.Text.{Counted, held, Next, Reads, Within};
+use crate::comparison::Comparison;
+use crate::comparison::compared;
 use crate::count::Counts;
 use crate::count::counted;
 use crate::count::none;
@@ -10,8 +12,6 @@ use crate::count::note;
 use crate::hex::byte_in;
 use crate::loaded::place_in;
 use crate::report::difference;
-use crate::verdict::Verdict;
-use crate::verdict::judge;
 use output::text;
 use std::num::wrapping_add_u32;
 
@@ -21,13 +21,13 @@ struct State {
     counts: Counts,
 }
 
-// A line is judged and counted; of the first ten that differ it is said how.
+// A line is compared and counted; of the first ten that differ it is said how.
 fn line(s: &[u8], c: Counts, places: &mut [u32; 1024]) -> Counts
     ensures { λ r. ⌜ Counted (now (s .entry)) c r ⌝ }
 {
-    match judge(s) {
-        Verdict::Malformed => counted(c, 0, Verdict::Malformed),
-        Verdict::Differs => {
+    match compared(s) {
+        Comparison::Malformed => counted(c, 0, Comparison::Malformed),
+        Comparison::Differs => {
             note(places, place_in(s));
             if c.differences < 10 {
                 difference(
@@ -35,11 +35,11 @@ fn line(s: &[u8], c: Counts, places: &mut [u32; 1024]) -> Counts
                     s,
                 );
             }
-            counted(c, byte_in(s, 0), Verdict::Differs)
+            counted(c, byte_in(s, 0), Comparison::Differs)
         }
-        Verdict::Agrees => {
+        Comparison::Agrees => {
             note(places, place_in(s));
-            counted(c, byte_in(s, 0), Verdict::Agrees)
+            counted(c, byte_in(s, 0), Comparison::Agrees)
         }
     }
 }
@@ -121,7 +121,7 @@ fn ended(st: State) -> Counts {
     if st.filled == 0 {
         return st.counts;
     }
-    counted(st.counts, 0, Verdict::Malformed)
+    counted(st.counts, 0, Comparison::Malformed)
 }
 
 fn failed(st: State) -> Counts {

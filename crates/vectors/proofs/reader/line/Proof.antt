@@ -5,41 +5,41 @@ use Prim.Native.Nat.{ℕ}
 use native.Mathlib.Omega.{arith}
 use borrow.Author.Needs.{needs}
 use Rattle.vectors.specs.Count.{countedOf}
-use Rattle.vectors.specs.declared.verdict.Verdict.the-variants.{Malformed, Differs, Agrees}
+use Rattle.vectors.specs.declared.comparison.Comparison.the-variants.{Malformed, Differs, Agrees}
 use Rattle.vectors.proofs.reader.line.Statement.{statement}
 use Rattle.vectors.proofs.reader.line.Tie as tie
 
 place-in-requires : tie.Need-place-in-requires
-place-in-requires c κs = (rw (c .before .enum-told2 .given .1) at (c .before .before .before .judge .ensures)) .0
+place-in-requires c κs = (rw (c .before .enum-told2 .given .1) at (c .before .before .before .compared .ensures)) .0
 
 difference-requires : tie.Need-difference-requires
 difference-requires c κs =
     let at-told = c .before .before .before .before .before .before .before in
-    (rw (at-told .enum-told2 .given .1) at (at-told .before .before .judge .ensures)) .0
+    (rw (at-told .enum-told2 .given .1) at (at-told .before .before .compared .ensures)) .0
 
 byte-in-requires : tie.Need-byte-in-requires
 byte-in-requires c κs =
     let at-told = c .before .before .before .before .before in
-    let shaped = (rw (at-told .enum-told2 .given .1) at (at-told .before .before .judge .ensures)) .0 in
+    let shaped = (rw (at-told .enum-told2 .given .1) at (at-told .before .before .compared .ensures)) .0 in
     omega (arith, shaped .long)
 
 place-in-requires-2 : tie.Need-place-in-requires-2
-place-in-requires-2 c κs = (rw (c .before .enum-told3 .given .1) at (c .before .before .before .judge .ensures)) .0
+place-in-requires-2 c κs = (rw (c .before .enum-told3 .given .1) at (c .before .before .before .compared .ensures)) .0
 
 byte-in-requires-2 : tie.Need-byte-in-requires-2
 byte-in-requires-2 c κs =
     let at-told = c .before .before .before in
-    let shaped = (rw (at-told .enum-told3 .given .1) at (at-told .before .before .judge .ensures)) .0 in
+    let shaped = (rw (at-told .enum-told3 .given .1) at (at-told .before .before .compared .ensures)) .0 in
     omega (arith, shaped .long)
 
 returns : tie.Need-returns
-returns c = (Malformed, rw (c .before .enum-told .given .1) at (c .before .before .before .judge .ensures), c .counted .ensures)
+returns c = (Malformed, rw (c .before .enum-told .given .1) at (c .before .before .before .compared .ensures), c .counted .ensures)
 
 returns-2 : tie.Need-returns-2
 returns-2 c =
     let at-told = c .before .before .before .before .before .before .before in (
       Differs,
-      rw (at-told .enum-told2 .given .1) at (at-told .before .before .judge .ensures),
+      rw (at-told .enum-told2 .given .1) at (at-told .before .before .compared .ensures),
       c .counted2 .ensures ∙ ap (λ (k : ℕ). countedOf (at-told .before .before .before .before .args .c) k Differs) (c .before .byte-in .ensures),
     )
 
@@ -47,7 +47,7 @@ returns-3 : tie.Need-returns-3
 returns-3 c =
     let at-told = c .before .before .before .before .before in (
       Agrees,
-      rw (at-told .enum-told3 .given .1) at (at-told .before .before .judge .ensures),
+      rw (at-told .enum-told3 .given .1) at (at-told .before .before .compared .ensures),
       c .counted3 .ensures ∙ ap (λ (k : ℕ). countedOf (at-told .before .before .before .before .args .c) k Agrees) (c .before .byte-in2 .ensures),
     )
 

@@ -1,11 +1,11 @@
--- `judge` meets its contract.
+-- `compared` meets its contract.
 -- Assumes nothing.
 use mathlib.Core.Path.{sym, _∙_}
 use mathlib.Core.Bool.{false≢true}
 use borrow.Author.Needs.{needs}
 use borrow.Author.Tests.{not-true, not-false}
-use Rattle.vectors.proofs.verdict.judge.Statement.{statement}
-use Rattle.vectors.proofs.verdict.judge.Tie as tie
+use Rattle.vectors.proofs.comparison.compared.Statement.{statement}
+use Rattle.vectors.proofs.comparison.compared.Tie as tie
 
 returns : tie.Need-returns
 returns c = λ h. absurd (false≢true (sym (not-true _ (c .if1 .taken)) ∙ c .before .shaped .ensures .1 h))
@@ -23,5 +23,5 @@ returns-3 c =
     let shape = c .before .before .before .shaped .ensures .0 (not-false _ (c .before .before .if1 .left)) in
     (shape, λ h. absurd (false≢true (sym (c .if2 .left) ∙ c .before .holds .ensures .1 h)))
 
-pub judge-spec : {M : Type 1} → statement M
-judge-spec = tie.close (tie.spec (search needs) returns holds-requires returns-2 returns-3)
+pub compared-spec : {M : Type 1} → statement M
+compared-spec = tie.close (tie.spec (search needs) returns holds-requires returns-2 returns-3)
