@@ -1,4 +1,5 @@
-; Loads and stores in every addressing mode, and instructions that change a byte in memory. The pointer at $58 walks over $2200 to $22FF.
+; Loads and stores in every addressing mode, and instructions that change a byte in memory. The pointer at $58 walks
+; over $2200 to $22FF.
         .text
         ldx     #0x2200
         stx     *0x58

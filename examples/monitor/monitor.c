@@ -4,9 +4,11 @@
  *
  *     monitor IMAGE TICKET BUDGET...
  *
- * There is one tick for each budget, which is in cycles. Where a comment says so, a real monitor waits for its clock, reads a sensor or drives an output.
+ * There is one tick for each budget, which is in cycles. Where a comment says so, a real monitor waits for its clock,
+ * reads a sensor or drives an output.
  * The routine is expected to take a reading in A and to leave its output at $0040, as examples/p does.
- * Exit status: 0 each tick came home; 1 the routine was refused, or a tick did not come home; 2 bad usage, or a file cannot be read.
+ * Exit status: 0 each tick came home; 1 the routine was refused, or a tick did not come home; 2 bad usage, or a file
+ * cannot be read.
  */
 #include "jugrond.h"
 

@@ -1,4 +1,5 @@
-; The ticket of routine P, as the specification has it. An assembler is used to write the bytes: the 68HC11 has its high byte first, as a ticket has.
+; The ticket of routine P, as the specification has it. An assembler is used to write the bytes: the 68HC11 has its high
+; byte first, as a ticket has.
 	.byte	0x01		; code window: start, length
 	.word	0x8000, 11
 	.byte	0x02		; data window

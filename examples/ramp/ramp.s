@@ -1,7 +1,9 @@
-; Pressure ramp. Once a tick it moves the drive one step towards the set point: up while the measured pressure is below it, down while it is above, else not at all; and
+; Pressure ramp. Once a tick it moves the drive one step towards the set point: up while the measured pressure is below
+; it, down while it is above, else not at all; and
 ; it clamps the drive at a maximum.
 ; The code window is $8000, 28 bytes; the data window $0040, 3 bytes; the stack window $01F0, 16 bytes.
-; Costs are counted backwards from RTS. A branch takes 3 cycles, taken or not; of its two ways the dearer counts. Nothing is pushed or called: every depth and need is 0.
+; Costs are counted backwards from RTS. A branch takes 3 cycles, taken or not; of its two ways the dearer counts.
+; Nothing is pushed or called: every depth and need is 0.
 	.set	measured, 0x40		; in: pressure
 	.set	setpoint, 0x41		; in: pressure wanted
 	.set	drive, 0x42		; in and out: drive, 0 at power-up

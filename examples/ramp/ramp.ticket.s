@@ -1,4 +1,5 @@
-; The ticket of the pressure ramp. The limit and the stack window are what the tick allows; the routine needs 37 cycles and 2 stack bytes, those of home.
+; The ticket of the pressure ramp. The limit and the stack window are what the tick allows; the routine needs 37 cycles
+; and 2 stack bytes, those of home.
 	.byte	0x01		; code window: start, length
 	.word	0x8000, 28
 	.byte	0x02		; data window

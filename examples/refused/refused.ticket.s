@@ -1,4 +1,5 @@
-; The ticket of the routine that waits. Its costs leave out the way back at $8006, which no cost can cover: refused.s says why, and how to mend it.
+; The ticket of the routine that waits. Its costs leave out the way back at $8006, which no cost can cover: refused.s
+; says why, and how to mend it.
 	.byte	0x01		; code window: start, length
 	.word	0x8000, 13
 	.byte	0x02		; data window

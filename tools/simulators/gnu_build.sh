@@ -1,8 +1,10 @@
 #!/bin/sh
-# gnu_build.sh DIR [OPTIONS]: builds GNU's 68HC11 simulator from Debian's package gdb-source in DIR, about half a minute. It leaves
+# gnu_build.sh DIR [OPTIONS]: builds GNU's 68HC11 simulator from Debian's package gdb-source in DIR, about half a
+# minute. It leaves
 #   DIR/libm6811.a   the interpreter with the parts of GNU's simulator that it needs (memory, events, interrupts)
 #   DIR/cflags       options to compile a program that uses it (include gnu_open.h; link with -Wl,--gc-sections)
-# The configuration is what GNU's own configure answers, the optimisation GNU's own -O2 or OPTIONS. On-chip devices and GNU's bfd, which only
+# The configuration is what GNU's own configure answers, the optimisation GNU's own -O2 or OPTIONS. On-chip devices and
+# GNU's bfd, which only
 # loads programs, are left out: gnu_absent.c has in their place functions that end the program.
 set -eu
 here=$(cd "$(dirname "$0")" && pwd)

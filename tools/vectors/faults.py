@@ -84,5 +84,6 @@ FAULTS = [
 # Places at which a simulator gives no answer at all.
 HALTS = {("GNU", DAA)}
 
-# A field that both have wrong, with the manual's value: JSR's cycle-by-cycle table has seven rows for IND,Y (scan, lines 2515 to 2521).
+# A field that both have wrong, with the manual's value: JSR's cycle-by-cycle table has seven rows for IND,Y (scan,
+# lines 2515 to 2521).
 MANUAL = {(JSR_IND_Y, "cycles"): 7}

@@ -1,12 +1,17 @@
 -- Executes one instruction of MAME's 68HC11 core for each state and writes what it answers.
--- The files are named by the environment: STATES (states.py writes it) and ANSWERS. A line of ANSWERS for each line of STATES:
+-- The files are named by the environment: STATES (states.py writes it) and ANSWERS. A line of ANSWERS for each line of
+-- STATES:
 --   AFTER CYCLES W ADDRESSBYTE ...
 -- as gnu_driver.c prints, the written bytes in MAME's order of writes.
 --
--- The machine runs under MAME's debugger without a window (-debug -debugger none). Where the debugger stops, MAME calls the
--- function given to register_periodic: the instruction asked for is done, its answer is taken and the next state is put in.
--- Memory is a table of this script: a read tap over all 65,536 addresses gives every byte read, a write tap takes every byte written.
--- MAME's branches count from where it saw the instruction start, which is before the debugger stops there. So a JMP of ours to the
+-- The machine runs under MAME's debugger without a window (-debug -debugger none). Where the debugger stops, MAME calls
+-- the
+-- function given to register_periodic: the instruction asked for is done, its answer is taken and the next state is put
+-- in.
+-- Memory is a table of this script: a read tap over all 65,536 addresses gives every byte read, a write tap takes every
+-- byte written.
+-- MAME's branches count from where it saw the instruction start, which is before the debugger stops there. So a JMP of
+-- ours to the
 -- state's PC is done first, and only then is the state put in.
 
 local BACKGROUND = 0x3C

@@ -39,10 +39,12 @@ DIVISIONS = {"Idiv", "Fdiv"}
 PULLED = {"PullByte": 1, "PullWord": 2, "Rts": 2}
 FLAG_BIT = {"C": 0x01, "H": 0x20, "X": 0x40}
 
-# A row of the table: kind is the action's first word; name its operation, as Adc; register what it works on, where it names one.
+# A row of the table: kind is the action's first word; name its operation, as Adc; register what it works on, where it
+# names one.
 Row = namedtuple("Row", "place kind name register mode length")
 
-# What a state is to try: a value of the register, one of the operand, and flags to set (capital letter) or clear; None leaves it to chance.
+# What a state is to try: a value of the register, one of the operand, and flags to set (capital letter) or clear; None
+# leaves it to chance.
 Subject = namedtuple("Subject", "register operand flags", defaults=(None, None, None))
 
 
