@@ -7,7 +7,7 @@ ghost use Rattle.commands.specs.Admit.{SoundSoFar};
 ghost use Rattle.commands.specs.Prefix.{startOf};
 ghost use Rattle.ticket.specs.Fields.{fieldsOf, placeOf};
 ghost use Rattle.ticket.specs.Write.{headerCommands, commandsAt, allThen, encodeAll, bytesOf, checkOf};
-ghost use Rattle.lists.specs.Splice.{spliced};
+ghost use Rattle.lists.specs.inner.Splice.{spliced};
 ghost use Rattle.ticket.specs.RoundTrip.{AllFit, FitsFields};
 use crate::fields::Mark;
 use crate::fields::Name;
