@@ -1,27 +1,22 @@
 """Tells the definitions that a reader has to believe from those that are an inner matter of the code, and holds the
 tree to it: the former stand in crates/*/specs, the latter in crates/*/specs/inner.
 
-A definition is to be believed where the contract of a public call leads to it, or the statement of a law that
-docs/ASSURANCE.md names. The public calls are the public functions without `requires` of the crates that INTERFACE
-names. Of the crates behind the desk stepper and the programs that test, which no demand speaks of, nothing is asked.
-
-  believed.py           the test: no definition of specs/inner is to be believed, and each of specs/ is.
-  believed.py --lines   the lines of definitions by crate, believed and inner, without blank lines and `use` lines.
+A definition is to be believed where the contract of a public call leads to it. The public calls are the public
+functions without `requires` of the crates of INTERFACE. The statements of the laws of docs/ASSURANCE.md lead to
+definitions too: these may stand at either place. Of the crates of OUTSIDE nothing is asked.
 """
 import re
 import sys
-from pathlib import Path
 
 sys.dont_write_bytecode = True
-ROOT = Path(__file__).resolve().parents[2]
-sys.path.insert(0, str(ROOT / 'tests/laws'))
+sys.path.insert(0, __file__.rsplit('/', 2)[0] + '/laws')
 from laws import PAGE, table
 from words import ATOM, USE, Declaration, Project, imported
 
 INTERFACE = ['stepper', 'ticket', 'verdict', 'monitor']
-# the desk stepper's crates and the programs': outside of the three demands
+# the desk stepper's crates and the programs that test: no demand speaks of them
 OUTSIDE = ['text', 'measure', 'arguments', 'cases', 'vectors']
-CALL = re.compile(r'^pub (?:extern "C" )?fn (\w+)(.*?)^\{', re.S | re.M)
+CALL = re.compile(r'^pub (?:extern "C" )?fn \w+(.*?)^\{', re.S | re.M)
 
 
 def contracts(project):
@@ -31,71 +26,48 @@ def contracts(project):
             text = source.read_text()
             names = {}
             for line in text.split('\n'):
-                if line.startswith('ghost use ') and (use := USE.match(line)):
-                    names.update(imported(use))
-            for name, contract in CALL.findall(text):
-                if 'requires' in contract:
-                    continue
-                for atom in ATOM.findall(contract):
+                if line.startswith('ghost use '):
+                    names.update(imported(USE.match(line)))
+            for contract in CALL.findall(text):
+                for atom in ATOM.findall(contract if 'requires' not in contract else ''):
                     if atom in names and (file := project.module(names[atom][0])):
-                        found = file.declarations.get(names[atom][1]) or file.constructors.get(names[atom][1])
-                        if found:
-                            yield found
+                        yield file.declarations.get(names[atom][1]) or file.constructors[names[atom][1]]
 
 
-def laws(project):
+def laws(project, root):
     """The declarations that the statements of the laws name."""
-    for law, file in table((ROOT / PAGE).read_text()):
+    for law, file in table((root / PAGE).read_text()):
         path = project.crates / file
         if path.is_file() and (d := project.file(path).declarations.get(law)):
-            for what in project.named(d.file, d.around + [d.signature]):
-                if isinstance(what, Declaration):
-                    yield what
+            yield from (what for what in project.named(d.file, d.around + [d.signature]) if isinstance(what, Declaration))
 
 
-def definitions(project):
+def files(project):
+    """Those of definitions that are asked about, each with whether it is inner."""
     for path in sorted(project.crates.glob('*/specs/**/*.antt')):
-        crate = path.relative_to(project.crates).parts[0]
-        if crate not in OUTSIDE:
-            yield from project.file(path).declarations.values()
+        if path.relative_to(project.crates).parts[0] not in OUTSIDE:
+            yield path, 'inner' in path.parts
 
 
-def inner(declaration):
-    return 'inner' in declaration.file.parts
-
-
-def lines(project):
-    count = {}
-    for path in sorted(project.crates.glob('*/specs/**/*.antt')):
-        crate = path.relative_to(project.crates).parts[0]
-        kept = [l for l in path.read_text().split('\n') if l.strip() and not re.match(r'use |  \S+,$|\}$|pub mod ', l)]
-        here = count.setdefault(crate, [0, 0])
-        here['inner' in path.parts] += len(kept)
-    return count
-
-
-def main():
-    project = Project(ROOT)
-    if sys.argv[1:] == ['--lines']:
-        for crate, (outer, within) in lines(project).items():
-            print(f'{crate:14}{outer:6}{within:6}' + ('  outside of the demands' if crate in OUTSIDE else ''))
-        inside = [v for k, v in lines(project).items() if k not in OUTSIDE]
-        print(f'{"of the demands":14}{sum(v[0] for v in inside):6}{sum(v[1] for v in inside):6}')
-        return
+def wrongs(root):
+    """Each definition, with what is wrong with its place."""
+    project = Project(root)
     called = project.closure(contracts(project))
-    reached = project.closure(called | set(laws(project)))
-    passed = failed = 0
-    for d in definitions(project):
-        wrong = "a public call's contract leads to it" if inner(d) and d in called else \
-            'no contract of a public call and no law leads to it' if not inner(d) and d not in reached else None
-        if wrong:
-            failed += 1
-            print(f'{d.file.relative_to(ROOT)}: {d.name}: {wrong}')
-        else:
-            passed += 1
-    print(f'{passed} passed, {failed} failed')
-    sys.exit(failed > 0)
+    stated = project.closure(laws(project, root))
+    for path, inner in files(project):
+        for d in project.file(path).declarations.values():
+            wrong = "the contract of a public call leads to it" if inner and d in called else \
+                'no contract of a public call leads to it, and no law' if not inner and d not in called | stated else None
+            yield f'{path.relative_to(root)}: {d.name}', wrong
 
 
-if __name__ == '__main__':
-    main()
+def lines(root):
+    """How many lines the definitions to be believed and the inner ones have, without comments, `use` and `mod` lines;
+    the rows of the opcode maps apart."""
+    count = {'believed': 0, 'rows': 0, 'inner': 0}
+    for path, inner in files(Project(root)):
+        code = [l for l in path.read_text().split('\n') if l.strip() and not re.match(r' *--|use |  \S+,$|\}$|pub mod ', l)]
+        rows = [l for l in code if re.match(r' +∷ row |    row ', l)]
+        count['rows'] += len(rows)
+        count['inner' if inner else 'believed'] += len(code) - len(rows)
+    return count
