@@ -1,5 +1,5 @@
-/* Executes NUMBER instructions by the stepper's step and by the hand-written interpreter, and compares cycles, registers with all flags, and
-   memory after each one. */
+/* Executes NUMBER instructions by the stepper's step and by the hand-written interpreter, and compares cycles,
+   registers with all flags, and memory after each one. */
 #include "jugrond.h"
 #include "state.h"
 #include "switch.h"
@@ -14,7 +14,8 @@ int main(int count, char **words)
     static struct state plain;
     plain = *ours;
     for (uint32_t i = 1; i <= instructions; i++) {
-        uint32_t answer = jugrond_step(ours->registers, sizeof ours->registers, ours->memory, sizeof ours->memory, &ours->cycles, &place);
+        uint32_t answer = jugrond_step(ours->registers, sizeof ours->registers, ours->memory, sizeof ours->memory,
+                                       &ours->cycles, &place);
         switch_run(plain.registers, plain.memory, ours->cycles, &cycles);
         plain.cycles = cycles;
         if (answer != JUGROND_DONE || memcmp(ours, &plain, sizeof plain) != 0) {

@@ -23,15 +23,16 @@ def kind(text):
 
 def listing(program):
     """Address to kind."""
-    said = subprocess.run(["objdump", "-d", "--no-show-raw-insn", program], capture_output=True, text=True, check=True).stdout
+    said = subprocess.run(["objdump", "-d", "--no-show-raw-insn", program], capture_output=True, text=True,
+                          check=True).stdout
     found = re.findall(r"^ +([0-9a-f]+):\t(.*)$", said, re.MULTILINE)
     return {int(at, 16): kind(re.sub(r"^(?:rep|repz|bnd|notrack|lock) +", "", text)) for at, text in found}
 
 
 def counts(program, words, out):
     """Callgrind's count for each address of the program itself."""
-    subprocess.run(["valgrind", "--tool=callgrind", f"--callgrind-out-file={out}", "--dump-instr=yes", "--compress-pos=no",
-                    "--compress-strings=no", program, *words], capture_output=True, check=True)
+    subprocess.run(["valgrind", "--tool=callgrind", f"--callgrind-out-file={out}", "--dump-instr=yes",
+                    "--compress-pos=no", "--compress-strings=no", program, *words], capture_output=True, check=True)
     seen, own, called = {}, False, False
     with open(out, encoding="utf-8") as f:
         for line in f:

@@ -1,9 +1,10 @@
 #!/usr/bin/env python3
-"""Runs the built programs under callgrind and prints the tables of docs/BENCHMARK.md. bench/run builds the programs and calls this.
+"""Runs the built programs under callgrind and prints the tables of docs/BENCHMARK.md. bench/run builds the programs and
+calls this.
 
-GNU's simulator executes a number of instructions and says how many cycles they took; that is the budget of the others. All must then have
-spent it to the last cycle and hold the same registers and memory, or no table is printed. The stepper and the C switch are also compared
-after each of 100,000 instructions (agree.c)."""
+GNU's simulator executes a number of instructions and says how many cycles they took; that is the budget of the others.
+All must then have spent it to the last cycle and hold the same registers and memory, or no table is printed. The
+stepper and the C switch are also compared after each of 100,000 instructions (agree.c)."""
 import re
 import subprocess
 import sys
@@ -36,7 +37,8 @@ def cycles(s):
 
 
 def budget(mix, length):
-    """The cycles of so many instructions, where all programs agree on the state. H is left out against GNU: its additions do not set it."""
+    """The cycles of so many instructions, where all programs agree on the state. H is left out against GNU: its
+    additions do not set it."""
     gnu = state(GNU, mix, length)
     ours = state(OURS, mix, cycles(gnu))
     same = all(state(p, mix, cycles(gnu)) == ours for p in SWITCHES) and state(GNU_BEST, mix, length) == gnu
@@ -58,7 +60,8 @@ def host(program, mix, length, inside=None):
     """Host instructions of a whole program, or inside one function and what it calls."""
     tool = ["valgrind", "--tool=callgrind", f"--callgrind-out-file={OUT}/callgrind.out"]
     tool += [f"--toggle-collect={inside}"] if inside else []
-    said = subprocess.run([*tool, f"{OUT}/{program}", *words(mix, number(program, mix, length))], capture_output=True, text=True, check=True)
+    command = [*tool, f"{OUT}/{program}", *words(mix, number(program, mix, length))]
+    said = subprocess.run(command, capture_output=True, text=True, check=True)
     return int(re.search(r"Collected : (\d+)", said.stderr).group(1))
 
 

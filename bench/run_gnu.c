@@ -1,5 +1,5 @@
-/* GNU's simulator: NUMBER instructions, each by the function that GNU's own run calls for a step (interrupts looked at, then the
-   interpreter); what GNU's run does besides for its event queue after each step is left out. */
+/* GNU's simulator: NUMBER instructions, each by the function that GNU's own run calls for a step (interrupts looked at,
+   then the interpreter); what GNU's run does besides for its event queue after each step is left out. */
 #include "gnu_open.h"
 #include "state.h"
 

@@ -37,9 +37,11 @@ struct state *state_start(int count, char **words, uint32_t *number)
 
 void state_save(const struct state *s, char **words)
 {
-    const uint8_t cycles[4] = {(uint8_t)(s->cycles >> 24), (uint8_t)(s->cycles >> 16), (uint8_t)(s->cycles >> 8), (uint8_t)s->cycles};
+    const uint8_t cycles[4] = {(uint8_t)(s->cycles >> 24), (uint8_t)(s->cycles >> 16), (uint8_t)(s->cycles >> 8),
+                               (uint8_t)s->cycles};
     FILE *f = open_or_exit(words[3], "wb");
-    if (fwrite(s->registers, 1, 11, f) != 11 || fwrite(cycles, 1, 4, f) != 4 || fwrite(s->memory, 1, 65536, f) != 65536 || fclose(f) != 0) {
+    if (fwrite(s->registers, 1, 11, f) != 11 || fwrite(cycles, 1, 4, f) != 4 ||
+        fwrite(s->memory, 1, 65536, f) != 65536 || fclose(f) != 0) {
         perror(words[3]);
         exit(2);
     }

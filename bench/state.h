@@ -1,5 +1,6 @@
-/* What the measured programs share: PROGRAM MIX NUMBER OUT starts from one state with the routine MIX at $8000 in an empty memory, and writes
-   the state reached to OUT: registers (11 bytes), cycles (4 bytes, high byte first), memory. */
+/* What the measured programs share: PROGRAM MIX NUMBER OUT starts from one state with the routine MIX at $8000 in an
+   empty memory, and writes the state reached to OUT: registers (11 bytes), cycles (4 bytes, high byte first),
+   memory. */
 #ifndef STATE_H
 #define STATE_H
 #include <stdint.h>

@@ -1,5 +1,6 @@
-/* A hand-written interpreter for the instructions of the mixes: a plain switch over the opcode, and one after the prefix $18. All flags are
-   computed at once, by the usual idioms: carry from the wider sum, half carry and overflow from exclusive ors. Any other opcode is refused. */
+/* A hand-written interpreter for the instructions of the mixes: a plain switch over the opcode, and one after the
+   prefix $18. All flags are computed at once, by the usual idioms: carry from the wider sum, half carry and overflow
+   from exclusive ors. Any other opcode is refused. */
 #include "switch.h"
 
 enum { C = 1, V = 2, Z = 4, N = 8, H = 32 };
@@ -11,12 +12,13 @@ struct cpu {
 
 /* Cycles by opcode; 0 where there is no instruction. */
 static const uint8_t COST[256] = {
-    [0x01] = 2, [0x08] = 3, [0x09] = 3, [0x13] = 6, [0x14] = 6, [0x16] = 2, [0x1B] = 2, [0x1D] = 7, [0x20] = 3, [0x25] = 3, [0x26] = 3,
-    [0x30] = 3, [0x31] = 3, [0x32] = 4, [0x33] = 4, [0x34] = 3, [0x36] = 3, [0x37] = 3, [0x38] = 5, [0x39] = 5, [0x3C] = 4, [0x3D] = 10,
-    [0x44] = 2, [0x48] = 2, [0x4C] = 2, [0x59] = 2, [0x5A] = 2, [0x7C] = 6, [0x7E] = 3, [0x7F] = 6, [0x81] = 2, [0x84] = 2, [0x8B] = 2,
-    [0x8D] = 6, [0x8E] = 3, [0x96] = 3, [0x9A] = 3, [0xA7] = 4, [0xAB] = 4, [0xB7] = 4, [0xBD] = 6, [0xC0] = 2, [0xC3] = 4, [0xCB] = 2,
-    [0xCE] = 3, [0xD9] = 3, [0xDD] = 4, [0xDE] = 4, [0xDF] = 4, [0xE6] = 4, [0xEB] = 4, [0xF6] = 4, [0xF7] = 4, [0xF8] = 4, [0xFC] = 5,
-    [0xFF] = 5,
+    [0x01] = 2, [0x08] = 3, [0x09] = 3, [0x13] = 6, [0x14] = 6, [0x16] = 2, [0x1B] = 2, [0x1D] = 7,
+    [0x20] = 3, [0x25] = 3, [0x26] = 3, [0x30] = 3, [0x31] = 3, [0x32] = 4, [0x33] = 4, [0x34] = 3,
+    [0x36] = 3, [0x37] = 3, [0x38] = 5, [0x39] = 5, [0x3C] = 4, [0x3D] = 10, [0x44] = 2, [0x48] = 2,
+    [0x4C] = 2, [0x59] = 2, [0x5A] = 2, [0x7C] = 6, [0x7E] = 3, [0x7F] = 6, [0x81] = 2, [0x84] = 2,
+    [0x8B] = 2, [0x8D] = 6, [0x8E] = 3, [0x96] = 3, [0x9A] = 3, [0xA7] = 4, [0xAB] = 4, [0xB7] = 4,
+    [0xBD] = 6, [0xC0] = 2, [0xC3] = 4, [0xCB] = 2, [0xCE] = 3, [0xD9] = 3, [0xDD] = 4, [0xDE] = 4,
+    [0xDF] = 4, [0xE6] = 4, [0xEB] = 4, [0xF6] = 4, [0xF7] = 4, [0xF8] = 4, [0xFC] = 5, [0xFF] = 5,
 };
 static const uint8_t COST_18[256] = {[0x69] = 7, [0xA6] = 5, [0xCE] = 4, [0xE7] = 5};
 
@@ -92,7 +94,8 @@ static inline uint8_t add8(struct cpu *r, uint8_t a, uint8_t m, unsigned carry)
 {
     unsigned sum = a + m + carry;
     uint8_t v = (uint8_t)sum;
-    set(r, H | N | Z | V | C, ((a ^ m ^ sum) >> 4 & 1) * H | nz8(v) | ((a ^ sum) & (m ^ sum) & 0x80) / 0x80 * V | (sum >> 8) * C);
+    set(r, H | N | Z | V | C,
+        ((a ^ m ^ sum) >> 4 & 1) * H | nz8(v) | ((a ^ sum) & (m ^ sum) & 0x80) / 0x80 * V | (sum >> 8) * C);
     return v;
 }
 
@@ -157,7 +160,8 @@ static inline void branch(struct cpu *r, uint8_t distance, int taken)
 static struct cpu unpack(const uint8_t regs[11])
 {
     return (struct cpu){
-        .a = regs[0], .b = regs[1], .x = word_at(regs, 2), .y = word_at(regs, 4), .sp = word_at(regs, 6), .pc = word_at(regs, 8), .flags = regs[10],
+        .a = regs[0], .b = regs[1], .x = word_at(regs, 2), .y = word_at(regs, 4),
+        .sp = word_at(regs, 6), .pc = word_at(regs, 8), .flags = regs[10],
     };
 }
 

@@ -1,4 +1,5 @@
-/* The hand-written interpreter that the stepper is measured against. Registers are 11 bytes: A, B, X, Y, SP, PC, flags, high byte first. */
+/* The hand-written interpreter that the stepper is measured against. Registers are 11 bytes: A, B, X, Y, SP, PC, flags,
+   high byte first. */
 #ifndef SWITCH_H
 #define SWITCH_H
 #include <stdint.h>

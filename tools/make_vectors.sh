@@ -1,7 +1,6 @@
 #!/bin/sh
 # make_vectors.sh [DIR]: makes crates/vectors/data/vectors.txt again from two other 68HC11 simulators, GNU's and MAME's.
-# It installs
-# Debian's packages gdb-source and mame where they are missing (root is needed for that) and works in DIR,
+# It installs Debian's packages gdb-source and mame where they are missing (root is needed for that) and works in DIR,
 # target/simulators if not given.
 # Two runs write the same bytes. docs/SIMULATORS.md says what is compared and where the simulators are wrong.
 set -eu

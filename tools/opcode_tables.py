@@ -33,7 +33,8 @@ def main():
         ("MODES", [str(n) for n in mode_at]),
     ):
         head = rf"(const {name}: \[\w+; {PLACES}\] = \[\n)"
-        code, found = re.subn(head + r".*?(^\];)", lambda m: m[1] + lines(entries) + m[2], code, count=1, flags=re.M | re.S)
+        code, found = re.subn(head + r".*?(^\];)", lambda m: m[1] + lines(entries) + m[2], code, count=1,
+                              flags=re.M | re.S)
         assert found == 1, name
     (CRATE / "src/table.rt").write_text(code, encoding="utf-8")
 

@@ -1,6 +1,6 @@
 ; Straight arithmetic on immediate, direct and extended operands; two stores let the values differ in every turn. MUL is
-; done in some turns
-; only. What GNU's simulator gets wrong (ADCB EXT, C after MUL, V after INC, H) is not read by any instruction here.
+; done in some turns only. What GNU's simulator gets wrong (ADCB EXT, C after MUL, V after INC, H) is not read by any
+; instruction here.
         .text
 loop:   ldaa    *0x40
         adda    #0x35

@@ -135,7 +135,9 @@ int main(int argc, char **argv)
             output = memory[OUTPUT];
             printf("tick %d: home after %" PRIu32 " cycles, output %d\n", i - 2, e.cycles, output);
             break;
-        case JUGROND_SPENT: /* the budget was below the certified cycles: what stands in memory is half done, and the last output stays */
+        case JUGROND_SPENT:
+            /* the budget was below the certified cycles: what stands in memory is half done, and the last output
+               stays */
             printf("tick %d: spent after %" PRIu32 " cycles, output stays %d\n", i - 2, e.cycles, output);
             status = EXIT_FAILURE;
             break;

@@ -1,6 +1,5 @@
 ; Pressure ramp. Once a tick it moves the drive one step towards the set point: up while the measured pressure is below
-; it, down while it is above, else not at all; and
-; it clamps the drive at a maximum.
+; it, down while it is above, else not at all; and it clamps the drive at a maximum.
 ; The code window is $8000, 28 bytes; the data window $0040, 3 bytes; the stack window $01F0, 16 bytes.
 ; Costs are counted backwards from RTS. A branch takes 3 cycles, taken or not; of its two ways the dearer counts.
 ; Nothing is pushed or called: every depth and need is 0.

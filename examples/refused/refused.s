@@ -1,9 +1,8 @@
 ; Switches a relay on, waits until its contact reports it, and starts the pump. Refused: cause 16 at $8006, the branch
 ; back.
 ; Why: no number of cycles covers the wait. A branch needs 3 cycles and the cost at its target, and the cost at wait has
-; this branch in it: 3 + 3 + its own cost. With 19 at $8006
-; the cost at $8004 is too low; with 22 there the one at $8006 is again. (Nor would the wait end: nothing changes the
-; switch while the routine runs.)
+; this branch in it: 3 + 3 + its own cost. With 19 at $8006 the cost at $8004 is too low; with 22 there the one at $8006
+; is again. (Nor would the wait end: nothing changes the switch while the routine runs.)
 ; Mend: write `bpl done` at $8006. The routine looks once and returns; the next tick looks again. Then the ticket is
 ; accepted as it is: its costs are those of one look.
 ; The code window is $8000, 13 bytes; the data window $0040, 3 bytes; the stack window $01F0, 16 bytes. Nothing is

@@ -2,9 +2,8 @@
 ; on the stack while the second is made.
 ; The code window is $8000, 26 bytes; the data window $0050, 3 bytes; the stack window $01F0, 16 bytes.
 ; Costs and needs are counted backwards from RTS, the subroutine first. A call counts twice: the subroutine's cost and
-; the cost after it; for the need 2 for the return address
-; and the subroutine's need. The subroutine's own depth begins at 0 again. Deepest are 4 bytes: left's result, the
-; return address, the reading; and home's 2 make 6.
+; the cost after it; for the need 2 for the return address and the subroutine's need. The subroutine's own depth begins
+; at 0 again. Deepest are 4 bytes: left's result, the return address, the reading; and home's 2 make 6.
 	.set	left, 0x50		; in: reading of the left sensor
 	.set	right, 0x51		; in: reading of the right sensor
 	.set	mean, 0x52		; out: mean pressure

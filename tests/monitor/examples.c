@@ -109,7 +109,8 @@ int main(void)
                 memory[0x42] = (uint8_t)drive;
                 check("ramp", 0x42, ramped(measured, setpoint, drive));
             }
-    check_dearest("ramp", 35); /* 2 below the certified cycles: after CLRA the drive is never clamped, but the rules ignore flags */
+    /* 2 below the certified cycles: after CLRA the drive is never clamped, but the rules ignore flags */
+    check_dearest("ramp", 35);
 
     judge("examples/shared/shared.bin", "examples/shared/shared.tkt");
     for (int left = 0; left < 256; left++)

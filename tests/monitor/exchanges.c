@@ -3,8 +3,8 @@
  * in the order in which the verdict of bench/peer.c tests them, and some routine must be answered otherwise.
  * Two exchanges no ticket can show, as the two causes never apply to one instruction and stand side by side: 12 is of
  * direct and extended writes alone. Of 11 with 12, no instruction that is kept out writes so (it writes indexed, to the
- * stack, or nothing); of 12 with 13, none that writes so pulls or returns. The peer's opcode table is
- * looked through for one.
+ * stack, or nothing); of 12 with 13, none that writes so pulls or returns. The peer's opcode table is looked through
+ * for one.
  * Prints for each exchange how many routines show it, and last the count; the exit status tells.
  */
 #include "peer.h"

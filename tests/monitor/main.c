@@ -41,8 +41,8 @@ struct lending {
     struct lent registers, memory, cycles, place;
 };
 
-static struct lending lend_all(const uint8_t *registers, size_t registers_length, const uint8_t *memory, size_t memory_length,
-                               size_t guard)
+static struct lending lend_all(const uint8_t *registers, size_t registers_length, const uint8_t *memory,
+                               size_t memory_length, size_t guard)
 {
     struct lending l = {
         .registers = lend(registers, registers_length, guard),

@@ -11,9 +11,10 @@ void sim_board_reset(SIM_DESC sd) { abort(); }
 void sim_hw_abort(SIM_DESC sd, struct hw *device, const char *format, ...) { abort(); }
 void sim_cpu_hw_io_read_buffer(sim_cpu *cpu, sim_cia cia, struct hw *device, void *to, int space, unsigned_word address,
                                unsigned bytes) { abort(); }
-void sim_cpu_hw_io_write_buffer(sim_cpu *cpu, sim_cia cia, struct hw *device, const void *from, int space, unsigned_word address,
-                                unsigned bytes) { abort(); }
-unsigned sim_hw_io_read_buffer(SIM_DESC sd, struct hw *device, void *to, int space, unsigned_word address, unsigned bytes) { abort(); }
+void sim_cpu_hw_io_write_buffer(sim_cpu *cpu, sim_cia cia, struct hw *device, const void *from, int space,
+                                unsigned_word address, unsigned bytes) { abort(); }
+unsigned sim_hw_io_read_buffer(SIM_DESC sd, struct hw *device, void *to, int space, unsigned_word address,
+                               unsigned bytes) { abort(); }
 unsigned sim_hw_io_write_buffer(SIM_DESC sd, struct hw *device, const void *from, int space, unsigned_word address,
                                 unsigned bytes) { abort(); }
 void trace_printf(SIM_DESC sd, sim_cpu *cpu, const char *format, ...) { abort(); }

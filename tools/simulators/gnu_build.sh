@@ -4,8 +4,7 @@
 #   DIR/libm6811.a   the interpreter with the parts of GNU's simulator that it needs (memory, events, interrupts)
 #   DIR/cflags       options to compile a program that uses it (include gnu_open.h; link with -Wl,--gc-sections)
 # The configuration is what GNU's own configure answers, the optimisation GNU's own -O2 or OPTIONS. On-chip devices and
-# GNU's bfd, which only
-# loads programs, are left out: gnu_absent.c has in their place functions that end the program.
+# GNU's bfd, which only loads programs, are left out: gnu_absent.c has in their place functions that end the program.
 set -eu
 here=$(cd "$(dirname "$0")" && pwd)
 optimise=${2:--O2}
@@ -21,7 +20,8 @@ fi
 # 1. The source, without the debugger itself and the other simulators' tests.
 rm -rf source build
 mkdir source build
-tar -xf "$archive" -C source --strip-components=1 --exclude='gdb/gdb' --exclude='gdb/gdb/*' --exclude='gdb/sim/testsuite/*'
+tar -xf "$archive" -C source --strip-components=1 \
+    --exclude='gdb/gdb' --exclude='gdb/gdb/*' --exclude='gdb/sim/testsuite/*'
 
 # 2. Headers that a full build of gdb would make.
 cd build
@@ -45,7 +45,8 @@ for part in m68hc11int.c "$here/gnu_absent.c" \
     "$sim/m68hc11/m68hc11_sim.c" "$sim/m68hc11/interrupts.c" "$sim/m68hc11/emulos.c" \
     "$sim/common/sim-core.c" "$sim/common/sim-events.c" "$sim/common/sim-engine.c" "$sim/common/sim-cpu.c" \
     "$sim/common/sim-io.c" "$sim/common/sim-utils.c" "$sim/common/sim-module.c" "$sim/common/sim-options.c" \
-    "$sim/common/sim-endian.c" ../source/libiberty/xmalloc.c ../source/libiberty/xexit.c ../source/libiberty/lbasename.c; do
+    "$sim/common/sim-endian.c" \
+    ../source/libiberty/xmalloc.c ../source/libiberty/xexit.c ../source/libiberty/lbasename.c; do
     gcc -w $cflags -c "$part"
 done
 rm -f ../libm6811.a

@@ -1,5 +1,6 @@
-/* A 68HC11 of GNU's simulator over 65,536 plain bytes of ours: no on-chip device is mapped. The bytes are mapped twice, at $0 and at
-   $10000, because GNU's 16-bit accesses do not wrap: the second byte after $FFFF is asked for at $10000. */
+/* A 68HC11 of GNU's simulator over 65,536 plain bytes of ours: no on-chip device is mapped. The bytes are mapped twice,
+   at $0 and at $10000, because GNU's 16-bit accesses do not wrap: the second byte after $FFFF is asked for at
+   $10000. */
 #ifndef GNU_OPEN_H
 #define GNU_OPEN_H
 #include "defs.h"

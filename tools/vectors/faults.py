@@ -1,8 +1,9 @@
 """Where the two simulators are wrong by the manual. docs/SIMULATORS.md has the same list with the manual's lines.
 
-A fault names the simulator, the places, the fields, and `says`: what the simulator answers there. Its answer in those fields is left
-out exactly where it is what `says` describes; any other disagreement of the two stops merge.py. `says(before, after, memory)` gets
-the fields before and after (by that simulator) and memory before as a function of the address.
+A fault names the simulator, the places, the fields, and `says`: what the simulator answers there. Its answer in those
+fields is left out exactly where it is what `says` describes; any other disagreement of the two stops merge.py.
+`says(before, after, memory)` gets the fields before and after (by that simulator) and memory before as a function of
+the address.
 """
 from collections import namedtuple
 
@@ -78,7 +79,8 @@ FAULTS = [
           lambda b, a, m: a["cycles"] == 6),
     Fault("MAME", "JSR IND,Y: 6 cycles", [JSR_IND_Y], ["cycles"], lambda b, a, m: a["cycles"] == 6),
     Fault("MAME", "IDIV by 0: D $FFFF", [IDIV], "AB", lambda b, a, m: b["IX"] == 0 and d(a) == 0xFFFF),
-    Fault("MAME", "FDIV with X at or below D: D $FFFF", [FDIV], "AB", lambda b, a, m: b["IX"] <= d(b) and d(a) == 0xFFFF),
+    Fault("MAME", "FDIV with X at or below D: D $FFFF", [FDIV], "AB",
+          lambda b, a, m: b["IX"] <= d(b) and d(a) == 0xFFFF),
 ]
 
 # Places at which a simulator gives no answer at all.

@@ -1,8 +1,8 @@
 /* Executes one instruction in GNU's simulator for each state on standard input and prints what it answers.
    Input, a line for each state:   PLACE BEFORE N ADDRESSBYTE ...      (states.py writes them)
    Output, a line for each state:  AFTER CYCLES W ADDRESSBYTE ...      or HALT where the simulator stops instead
-   BEFORE and AFTER: A B X Y SP PC flags, 11 bytes, high byte first. All numbers hexadecimal but for the cycles, which are decimal.
-   Written bytes stand in the order of GNU's writes, with the value that is in memory afterwards. Link with
+   BEFORE and AFTER: A B X Y SP PC flags, 11 bytes, high byte first. All numbers hexadecimal but for the cycles, which
+   are decimal. Written bytes stand in the order of GNU's writes, with the value that is in memory afterwards. Link with
    -Wl,--wrap=sim_core_write_buffer, so that every write is seen here, also one that leaves the byte as it was. */
 #include "gnu_open.h"
 #include <stdio.h>
@@ -15,7 +15,8 @@ static unsigned written[MOST_WRITTEN], writes;
 
 unsigned __real_sim_core_write_buffer(SIM_DESC, sim_cpu *, unsigned, const void *, address_word, unsigned);
 
-unsigned __wrap_sim_core_write_buffer(SIM_DESC sd, sim_cpu *cpu, unsigned map, const void *from, address_word address, unsigned bytes)
+unsigned __wrap_sim_core_write_buffer(SIM_DESC sd, sim_cpu *cpu, unsigned map, const void *from, address_word address,
+                                      unsigned bytes)
 {
     for (unsigned i = 0; i < bytes; i++) {
         unsigned at = (address + i) & 0xFFFF, j = 0;
@@ -42,8 +43,8 @@ static void store(sim_cpu *cpu, const unsigned *r)
 
 static void print(sim_cpu *cpu)
 {
-    printf("%04X%04X%04X%04X%04X%02X %d %02X", cpu_get_d(cpu), cpu_get_x(cpu), cpu_get_y(cpu), cpu_get_sp(cpu), cpu_get_pc(cpu),
-           cpu_get_ccr(cpu), cpu->cpu_current_cycle, writes);
+    printf("%04X%04X%04X%04X%04X%02X %d %02X", cpu_get_d(cpu), cpu_get_x(cpu), cpu_get_y(cpu), cpu_get_sp(cpu),
+           cpu_get_pc(cpu), cpu_get_ccr(cpu), cpu->cpu_current_cycle, writes);
     for (unsigned i = 0; i < writes; i++)
         printf(" %04X%02X", written[i], memory[written[i]]);
     putchar('\n');

@@ -5,14 +5,12 @@
 -- as gnu_driver.c prints, the written bytes in MAME's order of writes.
 --
 -- The machine runs under MAME's debugger without a window (-debug -debugger none). Where the debugger stops, MAME calls
--- the
--- function given to register_periodic: the instruction asked for is done, its answer is taken and the next state is put
--- in.
+-- the function given to register_periodic: the instruction asked for is done, its answer is taken and the next state is
+-- put in.
 -- Memory is a table of this script: a read tap over all 65,536 addresses gives every byte read, a write tap takes every
 -- byte written.
 -- MAME's branches count from where it saw the instruction start, which is before the debugger stops there. So a JMP of
--- ours to the
--- state's PC is done first, and only then is the state put in.
+-- ours to the state's PC is done first, and only then is the state put in.
 
 local BACKGROUND = 0x3C
 local CYCLE = 500000000000 -- attoseconds: the machine's crystal of 8 MHz makes 2 million cycles a second
@@ -85,8 +83,9 @@ local function answer()
 	local spent = now() - started
 	assert(spent % CYCLE == 0)
 	assert(not unlisted, "a byte is read that is not listed: " .. line)
-	answers:write(string.format("%02X%02X%04X%04X%04X%04X%02X %d %02X", state["A"].value, state["B"].value, state["IX"].value,
-		state["IY"].value, state["SP"].value, state["PC"].value, state["CCR"].value, spent // CYCLE, #written))
+	answers:write(string.format("%02X%02X%04X%04X%04X%04X%02X %d %02X", state["A"].value, state["B"].value,
+		state["IX"].value, state["IY"].value, state["SP"].value, state["PC"].value, state["CCR"].value,
+		spent // CYCLE, #written))
 	for _, address in ipairs(written) do
 		answers:write(string.format(" %04X%02X", address, memory[address]))
 	end

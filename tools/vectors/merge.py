@@ -1,9 +1,10 @@
 #!/usr/bin/env python3
 """merge.py STATES GNU MAME VECTORS: compares the two simulators' answers field by field and writes the vectors.
 
-A field's expected value is what both answer, or what one answers where the other's is left out (faults.py), or the manual's where both
-are. Any other disagreement is an error that is shown. Each vector's first number says which simulators gave its whole expected answer:
-1 GNU, 2 MAME, 3 both, 0 none (the fields come from different sources). The vector's format is in docs/SIMULATORS.md.
+A field's expected value is what both answer, or what one answers where the other's is left out (faults.py), or the
+manual's where both are. Any other disagreement is an error that is shown. Each vector's first number says which
+simulators gave its whole expected answer: 1 GNU, 2 MAME, 3 both, 0 none (the fields come from different sources). The
+vector's format is in docs/SIMULATORS.md.
 """
 import sys
 from collections import Counter, defaultdict
@@ -53,7 +54,8 @@ def answer(line):
 
 
 def same(field, one, other):
-    """Writes are compared as what memory holds afterwards: GNU writes a pushed word at once, so its order means nothing."""
+    """Writes are compared as what memory holds afterwards: GNU writes a pushed word at once, so its order means
+    nothing."""
     return sorted(one) == sorted(other) if field == "writes" else one == other
 
 
@@ -127,7 +129,8 @@ class Merger:
 
 
 def check_cover(by_place):
-    """That the vectors hold what they are to hold: every place, enough states, all flags, both ways of every conditional branch."""
+    """That the vectors hold what they are to hold: every place, enough states, all flags, both ways of every
+    conditional branch."""
     assert len(by_place) == PLACES, len(by_place)
     for place, states in by_place.items():
         assert len(states) >= LEAST, f"{place:03X}: {len(states)}"

@@ -3,11 +3,13 @@
 
     PLACE BEFORE N ADDRESSBYTE ...
 
-PLACE is 256 times the opcode map (0, or 1, 2, 3 after $18, $1A, $CD) plus the opcode. BEFORE is A B X Y SP PC flags, 11 bytes. Every
-byte that the instruction may read is listed with its address; every other byte of memory is $3C (the drivers know that).
+PLACE is 256 times the opcode map (0, or 1, 2, 3 after $18, $1A, $CD) plus the opcode. BEFORE is A B X Y SP PC flags, 11
+bytes. Every byte that the instruction may read is listed with its address; every other byte of memory is $3C (the
+drivers know that).
 
-The list of places with action, mode and length is read from crates/opcodes/specs/Rows.antt. It decides which states are made and
-nothing else: no expected answer comes from it. The same states come out at every run (random numbers with a fixed seed).
+The list of places with action, mode and length is read from crates/opcodes/specs/Rows.antt. It decides which states are
+made and nothing else: no expected answer comes from it. The same states come out at every run (random numbers with a
+fixed seed).
 """
 import random
 import re
@@ -28,7 +30,8 @@ EDGE16 = [0x0000, 0x0001, 0x007F, 0x0080, 0x00FF, 0x7FFF, 0x8000, 0xFFFF]
 EDGE_ADDRESS = EDGE16 + [0x00FE, 0x0100, 0xFFFE]
 EDGE_STACK = [0x0000, 0x0001, 0x0002, 0x0007, 0x0008, 0x0009, 0x00FF, 0x0100]
 EDGE_STACK += [0x8000, 0xFFF5, 0xFFF6, 0xFFF7, 0xFFF8, 0xFFFD, 0xFFFE, 0xFFFF]
-HALF_CARRIES = [(0x0F, 0x01), (0x08, 0x08), (0x07, 0x09), (0x0F, 0x0F), (0x10, 0xF0), (0xF8, 0x08), (0x80, 0x7F), (0x99, 0x66)]
+HALF_CARRIES = [(0x0F, 0x01), (0x08, 0x08), (0x07, 0x09), (0x0F, 0x0F),
+                (0x10, 0xF0), (0xF8, 0x08), (0x80, 0x7F), (0x99, 0x66)]
 
 BYTE_SIZED = {"Binary", "TstMemory", "StoreByte", "Modify", "Bset", "Bclr", "Brset", "Brclr"}
 WORD_SIZED = {"LoadWord", "StoreWord", "Addd", "Subd", "CompareWord"}
