@@ -39,7 +39,8 @@ def laws(project, root):
     for law, file in table((root / PAGE).read_text()):
         path = project.crates / file
         if path.is_file() and (d := project.file(path).declarations.get(law)):
-            yield from (what for what in project.named(d.file, d.around + [d.signature]) if isinstance(what, Declaration))
+            named = project.named(d.file, d.around + [d.signature])
+            yield from (what for what in named if isinstance(what, Declaration))
 
 
 def files(project):
@@ -56,8 +57,11 @@ def wrongs(root):
     stated = project.closure(laws(project, root))
     for path, inner in files(project):
         for d in project.file(path).declarations.values():
-            wrong = "the contract of a public call leads to it" if inner and d in called else \
-                'no contract of a public call leads to it, and no law' if not inner and d not in called | stated else None
+            wrong = None
+            if inner and d in called:
+                wrong = 'the contract of a public call leads to it'
+            elif not inner and d not in called | stated:
+                wrong = 'no contract of a public call leads to it, and no law'
             yield f'{path.relative_to(root)}: {d.name}', wrong
 
 
@@ -66,8 +70,8 @@ def lines(root):
     the rows of the opcode maps apart."""
     count = {'believed': 0, 'rows': 0, 'inner': 0}
     for path, inner in files(Project(root)):
-        code = [l for l in path.read_text().split('\n') if l.strip() and not re.match(r' *--|use |  \S+,$|\}$|pub mod ', l)]
-        rows = [l for l in code if re.match(r' +∷ row |    row ', l)]
+        code = [l for l in path.read_text().split('\n') if l.strip() and not re.match(r' *--|use |pub mod ', l)]
+        rows = [l for l in code if re.match(r' +row 0x', l)]
         count['rows'] += len(rows)
         count['inner' if inner else 'believed'] += len(code) - len(rows)
     return count

@@ -11,7 +11,7 @@ import subprocess
 
 WIDTH = 120
 # made or compared by programs, not read as pages
-DATA = re.compile(r'crates/\w+/(data/|stdout$|stdin$)|tests/edits/samples/|tests/laws/statements\.txt$')
+DATA = re.compile(r'crates/\w+/(data/|stdout$)|tests/(edits/samples|trace/expected)/|tests/laws/statements\.txt$')
 FOLDERS = 'crates', 'docs', 'tests', 'tools', 'bench', 'include', 'examples', '.ci'
 
 

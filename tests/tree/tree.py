@@ -19,9 +19,11 @@ ROOT = Path(__file__).resolve().parents[2]
 FAULTS = [
     ('a definition that nothing leads to', 'crates/memory/specs/Memory.antt',
      lambda text: text + '\nabbrev pub unused : ℕ → ℕ\nunused a = a\n', 'unused'),
-    ('a definition of a contract among the inner ones', 'crates/lists/specs/inner/Bit.antt', None, 'inner/Bit.antt: one'),
+    ('a definition of a contract among the inner ones', 'crates/lists/specs/inner/Bit.antt',
+     None, 'inner/Bit.antt: one'),
     ('a wide line', 'README.md', lambda text: text + 'x' * 121 + '\n', '121 characters'),
-    ('a crate that names one below it', 'crates.txt', lambda text: text.replace('lists:', 'lists: ticket'), 'lists names'),
+    ('a crate that names one below it', 'crates.txt',
+     lambda text: text.replace('lists:', 'lists: ticket'), 'lists names'),
     ('a path that is not there', 'docs/MONITOR.md', lambda text: text + '`docs/ABSENT.md`\n', 'docs/ABSENT.md'),
 ]
 
@@ -42,7 +44,8 @@ def seen(root, file, change, said):
             shutil.move(copy / file.replace('inner/', ''), copy / file)
             for path in [*copy.glob('crates/**/*.antt'), *copy.glob('crates/**/*.rt')]:
                 text = path.read_text()
-                moved = text.replace('lists.specs.Bit', 'lists.specs.inner.Bit').replace('specs.specs.Bit', 'specs.specs.inner.Bit')
+                moved = text.replace('lists.specs.Bit', 'lists.specs.inner.Bit')
+                moved = moved.replace('lists·specs.specs.Bit', 'lists·specs.specs.inner.Bit')
                 if moved != text:
                     path.write_text(moved)
         subprocess.run(['git', 'init', '-q', '.'], cwd=copy, check=True)
