@@ -23,6 +23,14 @@
 extern "C" {
 #endif
 
+/*
+ * The version of this header and of the library that it belongs to, as text and, for #if, as the number
+ * 10000 * major + 100 * minor + patch. docs/CHANGELOG.md says what each version changes. Major rises where a caller
+ * has to change something, minor where something is added.
+ */
+#define JUGROND_VERSION "1.1.0"
+#define JUGROND_VERSION_NUMBER 10100
+
 #define JUGROND_REGISTER_BYTES 11
 #define JUGROND_MEMORY_BYTES 65536
 
