@@ -4,3 +4,4 @@ pub mod Byte
 pub mod Word
 pub mod Decimal
 pub mod Divide
+pub mod inner

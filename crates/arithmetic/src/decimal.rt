@@ -1,7 +1,7 @@
 // DAA: the sum of two bytes of decimal digits, made decimal again.
 ghost use mathlib.Core.Path.{_≡_};
 ghost use Rattle.registers.specs.Flags.{flagsOf};
-ghost use Rattle.arithmetic.specs.Result.{packed8};
+ghost use Rattle.arithmetic.specs.inner.Packed.{packed8};
 ghost use Rattle.arithmetic.specs.Decimal.{daaOf};
 use crate::byte::ByteResult;
 use crate::byte::coded;

@@ -4,7 +4,7 @@ ghost use mathlib.Core.Bool.{false};
 ghost use lib.Dec.{eqb};
 ghost use Rattle.registers.specs.Flags.{flagsOf};
 ghost use Rattle.arithmetic.specs.Codes.{withZvc};
-ghost use Rattle.arithmetic.specs.Result.{packedDivided};
+ghost use Rattle.arithmetic.specs.inner.Packed.{packedDivided};
 ghost use Rattle.arithmetic.specs.Divide.{divided, idivOf, fdivOf};
 use crate::codes::with_zvc;
 

@@ -4,7 +4,7 @@ ghost use mathlib.Core.List.{map};
 ghost use Prim.Native.Nat.{_≤_, _<_};
 ghost use lib.ListN.{getD};
 ghost use Rattle.opcodes.specs.Tables.{costs, actions, modes, costAt, lengthAt};
-ghost use Rattle.opcodes.specs.Numbers.{actionOf, modeOf};
+ghost use Rattle.opcodes.specs.inner.Numbers.{actionOf, modeOf};
 ghost use Rattle.opcodes.specs.Decode.{instructionOf};
 ghost use Rattle.rules.specs.Marks.{imageFrom};
 ghost use Rattle.rules.specs.Shape.{shapeIn, shapeOf, sizeOf};
@@ -12,11 +12,11 @@ ghost use Rattle.checks.specs.Said.{shapeSaid};
 use crate::shape::Shape;
 use crate::shape::shape_by;
 use commands::command::Window;
-use opcodes::decode::Found;
-use opcodes::decode::found_of;
 use opcodes::decoder::decode;
 use opcodes::form::form_of;
 use opcodes::instruction::Decoded;
+use opcodes::lookup::Found;
+use opcodes::lookup::found_of;
 use registers::Cycles;
 use registers::word::wrapping_add;
 
@@ -86,7 +86,11 @@ pub fn shape_at(
             shape: Shape::Nothing,
             size: 0,
         },
-        Found::At(place, n, e) => {
+        Found::At {
+            place,
+            size: n,
+            cost: e,
+        } => {
             let i = at + (n as usize);
             let u = byte_in(image, i);
             let v = byte_in(image, i + 1);

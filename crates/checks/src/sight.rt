@@ -4,7 +4,7 @@ ghost use mathlib.Core.List.{map};
 ghost use Prim.Native.Nat.{_+_, _≤_};
 ghost use lib.Dec.{leb};
 ghost use Rattle.opcodes.specs.Tables.{costs, actions, modes};
-ghost use Rattle.opcodes.specs.Numbers.{actionOf, modeOf};
+ghost use Rattle.opcodes.specs.inner.Numbers.{actionOf, modeOf};
 ghost use Rattle.commands.specs.Cause.{pastOf};
 ghost use Rattle.rules.specs.Marks.{imageFrom};
 ghost use Rattle.rules.specs.Shape.{shapeOf, sizeOf};

@@ -6,11 +6,11 @@ use Prim.Native.Nat.{ℕ, _<_}
 use Rattle.registers.specs.Word.{wrappingAdd, targetOf}
 use Rattle.registers.specs.declared.Registers.{Registers}
 use Rattle.memory.specs.Memory.{byteAt, wordAt}
-use Rattle.opcodes.specs.Numbers.{actionOf}
+use Rattle.opcodes.specs.inner.Numbers.{actionOf}
 use Rattle.opcodes.specs.declared.instruction.Action.{Action}
 use Rattle.opcodes.specs.declared.instruction.Operand.{Operand}
-use Rattle.instructions.specs.Effect.{effectOf, Executed}
-use Rattle.instructions.specs.Sited.{ByteThere, WordThere, Stands, MaskThere, OffsetThere, Does, Leaves, TakesByte, TakesWord, ModifiesAt, MasksAt, GoesOnBits, ReadsAt, DoesAt}
+use Rattle.instructions.specs.Effect.{effectOf}
+use Rattle.instructions.specs.inner.Sited.{ByteThere, WordThere, Stands, MaskThere, OffsetThere, Does, Leaves, TakesByte, TakesWord, ModifiesAt, MasksAt, GoesOnBits, ReadsAt, DoesAt, Executed}
 
 -- ---- what is said of an action, said of its number
 

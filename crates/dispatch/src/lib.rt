@@ -1,13 +1,13 @@
-// An inner crate: one instruction, by the number of its action (opcodes/specs/Numbers.antt). An arm calls the instruction with its case as a constant,
+// An inner crate: one instruction, by the number of its action (opcodes/specs/inner/Numbers.antt). An arm calls the instruction with its case as a constant,
 // and a match has fewer than fifty arms, so that the compiler takes each arm into the loop that runs the instructions. `_` stands for no number of a group.
 ghost use mathlib.Core.Path.{_≡_};
 ghost use mathlib.Core.Bool.{true};
 ghost use lib.ListN.{length};
 ghost use Prim.Native.Nat.{_<_, _≤_};
-ghost use Rattle.opcodes.specs.Numbers.{actionOf, modeOf};
-ghost use Rattle.opcodes.specs.Fits.{fits};
-ghost use Rattle.instructions.specs.Effect.{effectOf, Executed};
-ghost use Rattle.instructions.specs.Sited.{operandFrom, Does, Leaves, ReadsAt, DoesAt};
+ghost use Rattle.opcodes.specs.inner.Numbers.{actionOf, modeOf};
+ghost use Rattle.opcodes.specs.inner.Fits.{fits};
+ghost use Rattle.instructions.specs.Effect.{effectOf};
+ghost use Rattle.instructions.specs.inner.Sited.{operandFrom, Does, Leaves, ReadsAt, DoesAt, Executed};
 use instructions::inherent::inherent;
 use instructions::interrupt::interrupt;
 use instructions::interrupt::resume;

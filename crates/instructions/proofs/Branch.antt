@@ -18,8 +18,8 @@ use Rattle.opcodes.specs.declared.instruction.Action.the-variants.{Branch}
 use Rattle.opcodes.specs.declared.instruction.Operand.{Operand}
 use Rattle.instructions.specs.Operand.{addressOf}
 use Rattle.instructions.specs.Outcome.{branches, outcomeOf}
-use Rattle.instructions.specs.Effect.{Effect, effect, effectBy, effectOf, Executed}
-use Rattle.instructions.specs.Sited.{GoesTo}
+use Rattle.instructions.specs.Effect.{Effect, effect, effectBy, effectOf}
+use Rattle.instructions.specs.inner.Sited.{GoesTo, Executed}
 
 by-form : (j t : ℕ) (taken : Bool) (r : Registers) (m : List ℕ) → (j ≡ 0 → taken ≡ true) → (j ≡ 1 → taken ≡ false)
     → effectBy (branchForm j t) r r (branches taken (dataOf r)) m ≡ effect (withPc r (cond taken t (r .pc))) []

@@ -50,7 +50,3 @@ effectWith g r w m = effectBy g r (withData r (w .regs)) w m
 
 unfoldable pub effectOf : Action → Operand → Registers → List ℕ → Effect
 effectOf a o r m = effectWith (formOf a o (r .pc)) r (outcomeOf a (maskOf o) (inputOf (readsOf a) o r m) r) m
-
--- q and m′ are the registers and the memory after the effect e, from the memory m
-abbrev pub Executed : Effect → Registers → List ℕ → List ℕ → Type 0
-Executed e q m m′ = (q ≡ e .regs) × (m′ ≡ applied (e .stores) m)

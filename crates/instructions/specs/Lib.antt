@@ -3,4 +3,4 @@ pub mod Inherent
 pub mod Outcome
 pub mod Interrupt
 pub mod Effect
-pub mod Sited
+pub mod inner

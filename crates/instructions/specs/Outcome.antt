@@ -62,11 +62,11 @@ unfoldable pub withIndex : Index → Data → ℕ → Data
 withIndex Ix.X d v = withX d v (d .flags)
 withIndex Ix.Y d v = withY d v (d .flags)
 
-unfoldable pub wordOf : Word → ℕ → Data → ℕ
-wordOf Wd.D sp d = accumulatorD d
-wordOf Wd.X sp d = d .x
-wordOf Wd.Y sp d = d .y
-wordOf Wd.S sp d = sp
+unfoldable pub wordRegisterOf : Word → ℕ → Data → ℕ
+wordRegisterOf Wd.D sp d = accumulatorD d
+wordRegisterOf Wd.X sp d = d .x
+wordRegisterOf Wd.Y sp d = d .y
+wordRegisterOf Wd.S sp d = sp
 
 -- a word and the flags; SP is not among the data, and LDS moves it by its form
 unfoldable pub toWord : Word → Data → ℕ → ℕ → Data
@@ -103,9 +103,9 @@ compute TstMemory k v sp d = computes (withFlags d (byteOf (tstOf v (codes d))))
 compute (LoadWord w) k v sp d = gives v (toWord w d v (byteOf (logic16Of v (codes d))))
 compute Addd k v sp d = computes (toD d (add16Of (accumulatorD d) v (codes d)))
 compute Subd k v sp d = computes (toD d (sub16Of (accumulatorD d) v (codes d)))
-compute (CompareWord w) k v sp d = computes (withFlags d (byteOf (sub16Of (wordOf w sp d) v (codes d) .flags)))
+compute (CompareWord w) k v sp d = computes (withFlags d (byteOf (sub16Of (wordRegisterOf w sp d) v (codes d) .flags)))
 compute (StoreByte c) k v sp d = gives (accumulatorOf c d) (tested8 (accumulatorOf c d) d)
-compute (StoreWord w) k v sp d = gives (wordOf w sp d) (tested16 (wordOf w sp d) d)
+compute (StoreWord w) k v sp d = gives (wordRegisterOf w sp d) (tested16 (wordRegisterOf w sp d) d)
 compute (Modify u) k v sp d = modifies d (unaryOf u v (codes d))
 compute Bset k v sp d = modifies d (bsetOf v k (codes d))
 compute Bclr k v sp d = modifies d (bclrOf v k (codes d))

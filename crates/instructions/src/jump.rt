@@ -4,13 +4,25 @@ ghost use mathlib.Core.Bool.{cond};
 ghost use lib.ListN.{length};
 ghost use Rattle.registers.specs.Registers.{withPc};
 ghost use Rattle.opcodes.specs.declared.instruction.Action.the-variants as Action;
-ghost use Rattle.instructions.specs.Sited.{GoesTo, GoesOnBits, JumpsTo, StoresAt};
-use crate::compute::all_set;
-use crate::compute::none_set;
+ghost use Rattle.instructions.specs.Outcome.{allSet, noneSet};
+ghost use Rattle.instructions.specs.inner.Sited.{GoesTo, GoesOnBits, JumpsTo, StoresAt};
 use memory::push_word;
 use opcodes::condition::holds;
 use registers::Registers;
 use registers::word::wrapping_sub;
+
+// Whether every bit of the mask k is set in v; whether none is.
+fn all_set(v: u8, k: u8) -> bool
+    ensures { λ r. ⌜ r ≡ allSet v k ⌝ }
+{
+    (v & k) == k
+}
+
+fn none_set(v: u8, k: u8) -> bool
+    ensures { λ r. ⌜ r ≡ noneSet v k ⌝ }
+{
+    (v & k) == 0
+}
 
 // On to the target of a branch that is taken.
 fn branch_if(taken: bool, t: u16, r: Registers) -> Registers

@@ -1,6 +1,6 @@
 // An inner crate: what the instructions of each kind read, compute and write. Its functions are proved for every case of their kind.
 pub mod operand; // where an operand stands
-mod compute; // registers by name
+mod named; // the registers by name
 pub mod inherent; // the instructions on the registers alone
 pub mod values; // the instructions that leave memory alone
 pub mod interrupt; // SWI and RTI

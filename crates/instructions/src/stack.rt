@@ -2,11 +2,11 @@
 ghost use lib.ListN.{length};
 ghost use mathlib.Core.Path.{_≡_};
 ghost use Rattle.opcodes.specs.declared.instruction.Action.the-variants as Action;
-ghost use Rattle.instructions.specs.Sited.{Does, Leaves};
-use crate::compute::accumulator;
-use crate::compute::index;
-use crate::compute::with_accumulator;
-use crate::compute::with_index;
+ghost use Rattle.instructions.specs.inner.Sited.{Does, Leaves};
+use crate::named::accumulator;
+use crate::named::index;
+use crate::named::with_accumulator;
+use crate::named::with_index;
 use memory::byte_at;
 use memory::put_byte;
 use memory::word_at;

@@ -4,9 +4,9 @@ ghost use lib.ListN.{length};
 ghost use Rattle.registers.specs.Registers.{dataOf, withFlags, withData};
 ghost use Rattle.memory.specs.Memory.{withByte};
 ghost use Rattle.opcodes.specs.declared.instruction.Action.the-variants as Action;
-ghost use Rattle.instructions.specs.Sited.{StoresAt, ModifiesAt, MasksAt};
-use crate::compute::accumulator;
-use crate::compute::word;
+ghost use Rattle.instructions.specs.inner.Sited.{StoresAt, ModifiesAt, MasksAt};
+use crate::named::accumulator;
+use crate::named::word_register;
 use arithmetic::byte::ByteResult;
 use arithmetic::byte::bclr;
 use arithmetic::byte::bset;
@@ -34,7 +34,7 @@ pub fn store_word(w: Word, at: u16, r: Registers, mem: &mut [u8]) -> Registers
     requires { ⌜ length (now mem) ≡ 65536 ⌝ }
     ensures { λ q. ⌜ StoresAt (Action.StoreWord w) at r (now (mem .entry)) q (now (mem .exit)) ⌝ }
 {
-    let v = word(w, r);
+    let v = word_register(w, r);
     put_word(mem, at, v);
     r.with_flags(logic16(v, r.flags))
 }

@@ -1,10 +1,10 @@
 // The instructions that leave memory and PC alone; of these LDS moves SP. Each is called with its case as a constant.
 ghost use Rattle.opcodes.specs.declared.instruction.Action.the-variants as Action;
-ghost use Rattle.instructions.specs.Sited.{Leaves, TakesByte, TakesWord};
-use crate::compute::accumulator;
-use crate::compute::to_word;
-use crate::compute::with_accumulator;
-use crate::compute::word;
+ghost use Rattle.instructions.specs.inner.Sited.{Leaves, TakesByte, TakesWord};
+use crate::named::accumulator;
+use crate::named::to_word;
+use crate::named::with_accumulator;
+use crate::named::word_register;
 use arithmetic::byte::binary;
 use arithmetic::byte::tst;
 use arithmetic::byte::unary;
@@ -73,6 +73,6 @@ pub fn subtract_word(v: u16, r: Registers) -> Registers
 pub fn compare_word(w: Word, v: u16, r: Registers) -> Registers
     ensures { λ q. ⌜ TakesWord (Action.CompareWord w) v r q ⌝ }
 {
-    let difference = sub16(word(w, r), v, r.flags);
+    let difference = sub16(word_register(w, r), v, r.flags);
     r.with_flags(difference.flags)
 }

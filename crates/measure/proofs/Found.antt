@@ -8,8 +8,9 @@ use native.Mathlib.Omega.{arith}
 use lib.Dec.{ltb}
 use borrow.Author.Tests.{ne-eqb}
 use Rattle.opcodes.proofs.Says.{Said, there-says, nowhere-says, none-there}
-use Rattle.opcodes.specs.Decode.{Bytes, opcodeSize, instructionOf, decodeAt, foundOf}
-use Rattle.opcodes.specs.declared.decode.Found.the-variants as Found
+use Rattle.opcodes.specs.Decode.{Bytes, opcodeSize, instructionOf, decodeAt}
+use Rattle.opcodes.specs.inner.Lookup.{foundOf}
+use Rattle.opcodes.specs.declared.lookup.Found.the-variants as Found
 use Rattle.stepper.specs.Step.{fetched}
 use Rattle.rules.specs.Trace.{plain, kindIn, kindOf}
 

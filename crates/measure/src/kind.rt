@@ -7,12 +7,12 @@ ghost use Rattle.opcodes.specs.Decode.{instructionOf};
 ghost use Rattle.rules.specs.Trace.{kindBy, kindIn, kindOf};
 ghost use Rattle.measure.specs.Look.{kindSaid};
 use memory::byte_at;
-use opcodes::decode::Found;
-use opcodes::decode::found_of;
 use opcodes::decoder::decode;
 use opcodes::form::Form;
 use opcodes::form::form_of;
 use opcodes::instruction::Decoded;
+use opcodes::lookup::Found;
+use opcodes::lookup::found_of;
 use opcodes::table::actions;
 use opcodes::table::costs;
 use opcodes::table::modes;
@@ -73,7 +73,11 @@ pub fn kind_at(mem: &[u8], pc: u16) -> Kind
     let tc = costs();
     match found_of(byte_at(mem, pc), byte_at(mem, wrapping_add(pc, 1)), &tc) {
         Found::Nothing => Kind::Plain,
-        Found::At(place, n, e) => {
+        Found::At {
+            place,
+            size: n,
+            cost: e,
+        } => {
             let u = byte_at(mem, wrapping_add(pc, n));
             let v = byte_at(mem, wrapping_add(pc, n + 1));
             let w = byte_at(mem, wrapping_add(pc, n + 2));

@@ -11,7 +11,7 @@ use Rattle.opcodes.specs.declared.instruction.Mode.{Mode}
 use Rattle.opcodes.specs.declared.instruction.Mode.the-variants as Mode
 use Rattle.opcodes.specs.Rows.{rows}
 use Rattle.opcodes.specs.Tables.{actions, modes, actionAt, modeAt}
-use Rattle.opcodes.specs.Fits.{fits}
+use Rattle.opcodes.specs.inner.Fits.{fits}
 use Rattle.opcodes.proofs.ByRow.{all, by-row}
 
 abbrev ok : ℕ → Action → Mode → Bool

@@ -9,8 +9,9 @@ use lib.Dec.{eqb, ltb}
 use lib.ListN.{getD}
 use borrow.Author.Tests.{eqb-true, eq-eqb, ne-eqb, lt-ltb, le-ltb}
 use Rattle.opcodes.specs.Tables.{costs, costAt}
-use Rattle.opcodes.specs.declared.decode.Found.the-variants as Found
-use Rattle.opcodes.specs.Decode.{pageOf, placeOf, opcodeSize, foundOf}
+use Rattle.opcodes.specs.declared.lookup.Found.the-variants as Found
+use Rattle.opcodes.specs.Decode.{pageOf, opcodePlace, opcodeSize}
+use Rattle.opcodes.specs.inner.Lookup.{foundOf}
 
 pub prefixes-empty : (costAt 0x18 ≡ 0) × (costAt 0x1a ≡ 0) × (costAt 0xcd ≡ 0)
 unfolding costs costAt
@@ -63,21 +64,21 @@ unfolding costAt
 entry t e p = ap (λ (x : List ℕ). getD x p 0) e
 
 module _ (first second : ℕ) where
-  pub in-first : pageOf first ≡ 0 → placeOf first second ≡ first
-  unfolding placeOf
+  pub in-first : pageOf first ≡ 0 → opcodePlace first second ≡ first
+  unfolding opcodePlace
   in-first z = simp (eq-eqb _ _ z)
 
-  in-other : (pageOf first ≡ 0 → ⊥) → placeOf first second ≡ pageOf first + second
-  unfolding placeOf
+  in-other : (pageOf first ≡ 0 → ⊥) → opcodePlace first second ≡ pageOf first + second
+  unfolding opcodePlace
   in-other n = simp (ne-eqb _ _ n)
 
   -- after a prefix the opcode has two bytes
-  pub paged : (g : ℕ) → g ≡ pageOf first → (g ≡ 0 → ⊥) → (placeOf first second ≡ g + second) × (opcodeSize (g + second) ≡ 2)
+  pub paged : (g : ℕ) → g ≡ pageOf first → (g ≡ 0 → ⊥) → (opcodePlace first second ≡ g + second) × (opcodeSize (g + second) ≡ 2)
   paged g e n =
       let far : pageOf first ≡ 0 → ⊥ = λ z. n (e ∙ z) in
       (in-other far ∙ ap (λ (k : ℕ). k + second) (sym e), size-2 (g + second) (omega (arith, a-page first far)))
 
-  module _ (t : List ℕ) (e : t ≡ costs) (p : ℕ) (h : placeOf first second ≡ p) where
+  module _ (t : List ℕ) (e : t ≡ costs) (p : ℕ) (h : opcodePlace first second ≡ p) where
     pub there : (s : ℕ) → opcodeSize p ≡ s → (getD t p 0 ≡ 0 → ⊥) → Found.At p s (getD t p 0) ≡ foundOf first second
     unfolding foundOf
     there s g n = simp (h, ← entry t e p, g, ne-eqb _ _ n)

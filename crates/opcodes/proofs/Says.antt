@@ -7,10 +7,11 @@ use native.Mathlib.Omega.{arith}
 use lib.Dec.{eqb}
 use borrow.Author.Tests.{eq-eqb, eqb-true, eqb-false}
 use Rattle.opcodes.specs.Tables.{costAt}
-use Rattle.opcodes.specs.declared.decode.Found.{Found}
-use Rattle.opcodes.specs.declared.decode.Found.the-variants as Found
+use Rattle.opcodes.specs.declared.lookup.Found.{Found}
+use Rattle.opcodes.specs.declared.lookup.Found.the-variants as Found
 use Rattle.opcodes.specs.declared.instruction.Decoded.the-variants.{Nothing}
-use Rattle.opcodes.specs.Decode.{Bytes, placeOf, opcodeSize, foundOf, decodeAt}
+use Rattle.opcodes.specs.Decode.{Bytes, opcodePlace, opcodeSize, decodeAt}
+use Rattle.opcodes.specs.inner.Lookup.{foundOf}
 use Rattle.opcodes.proofs.Rule.{below}
 
 abbrev foundBy : ℕ → Bool → Found
@@ -31,15 +32,15 @@ nowhere-by q false t h = let z : _≡_ {A = ℕ} 0 1 = cc in let w : ⊥ = omega
 
 module _ (first second : ℕ) where
   abbrev pub Said : ℕ → ℕ → ℕ → Type 0
-  Said p s e = (placeOf first second ≡ p) × (opcodeSize p ≡ s) × (costAt p ≡ e) × (costAt p ≡ 0 → ⊥)
+  Said p s e = (opcodePlace first second ≡ p) × (opcodeSize p ≡ s) × (costAt p ≡ e) × (costAt p ≡ 0 → ⊥)
 
   pub there-says : (p s e : ℕ) → foundOf first second ≡ Found.At p s e → Said p s e
   unfolding foundOf
-  there-says p s e h = there-by (placeOf first second) (eqb (costAt (placeOf first second)) 0) refl p s e h
+  there-says p s e h = there-by (opcodePlace first second) (eqb (costAt (opcodePlace first second)) 0) refl p s e h
 
-  pub nowhere-says : foundOf first second ≡ Found.Nothing → costAt (placeOf first second) ≡ 0
+  pub nowhere-says : foundOf first second ≡ Found.Nothing → costAt (opcodePlace first second) ≡ 0
   unfolding foundOf
-  nowhere-says h = nowhere-by (placeOf first second) (eqb (costAt (placeOf first second)) 0) refl h
+  nowhere-says h = nowhere-by (opcodePlace first second) (eqb (costAt (opcodePlace first second)) 0) refl h
 
   pub in-tables : {p s e : ℕ} → foundOf first second ≡ Found.At p s e → p < 1024
   in-tables {p} {s} {e} h = below p (there-says p s e h .3)

@@ -40,16 +40,16 @@ abbrev pub at : Test → ℕ → Bool
 at t i = t (bit 3 i) (bit 2 i) (bit 1 i) (low i)
 
 -- the lowest k bits of the truth word
-abbrev pub wordOf : Test → ℕ → ℕ
-wordOf t zero = 0
-wordOf t (suc k) = one (at t k) * 2 ^ k + wordOf t k
+abbrev pub truthWord : Test → ℕ → ℕ
+truthWord t zero = 0
+truthWord t (suc k) = one (at t k) * 2 ^ k + truthWord t k
 
-abbrev pub wordsOf : List Test → List ℕ
-wordsOf [] = []
-wordsOf (t ∷ ts) = wordOf t 16 ∷ wordsOf ts
+abbrev pub truthWordsOf : List Test → List ℕ
+truthWordsOf [] = []
+truthWordsOf (t ∷ ts) = truthWord t 16 ∷ truthWordsOf ts
 
 unfoldable pub truthWords : List ℕ
-truthWords = wordsOf tests
+truthWords = truthWordsOf tests
 
 -- whether a test holds: its number is the low half-byte of its opcode
 unfoldable pub holdsOf : ℕ → Flags → Bool

@@ -11,8 +11,6 @@ use Rattle.opcodes.specs.declared.instruction.Mode.{Mode}
 use Rattle.opcodes.specs.declared.instruction.Mode.the-variants as Mode
 use Rattle.opcodes.specs.declared.instruction.Decoded.{Decoded}
 use Rattle.opcodes.specs.declared.instruction.Decoded.the-variants.{Instruction, Nothing}
-use Rattle.opcodes.specs.declared.decode.Found.{Found}
-use Rattle.opcodes.specs.declared.decode.Found.the-variants as Found
 use Rattle.opcodes.specs.Tables.{costAt, actionAt, modeAt}
 
 -- the bytes from an address on, by their offset: only the first five are looked at
@@ -24,28 +22,23 @@ unfoldable pub pageOf : ℕ → ℕ
 pageOf op = cond (eqb op 0x18) 256 (cond (eqb op 0x1a) 512 (cond (eqb op 0xcd) 768 0))
 
 -- the place of an opcode in the four maps
-unfoldable pub placeOf : ℕ → ℕ → ℕ
-placeOf first second = cond (eqb (pageOf first) 0) first (pageOf first + second)
+unfoldable pub opcodePlace : ℕ → ℕ → ℕ
+opcodePlace first second = cond (eqb (pageOf first) 0) first (pageOf first + second)
 
 -- how many bytes the opcode has
 unfoldable pub opcodeSize : ℕ → ℕ
 opcodeSize place = cond (ltb place 256) 1 2
 
--- the place, the size of the opcode and the entry of the table, where an instruction is
-unfoldable pub foundOf : ℕ → ℕ → Found
-foundOf first second =
-    let p = placeOf first second in cond (eqb (costAt p) 0) Found.Nothing (Found.At p (opcodeSize p) (costAt p))
-
-abbrev pub wordOf : ℕ → ℕ → ℕ
-wordOf high low = high * 256 + low
+abbrev pub wordFrom : ℕ → ℕ → ℕ
+wordFrom high low = high * 256 + low
 
 -- an operand of a mode, from the three bytes after the opcode
 unfoldable pub operandOf : Mode → ℕ → ℕ → ℕ → Operand
 operandOf Mode.Inherent u v w = Operand.Inherent
 operandOf Mode.Immediate8 u v w = Operand.Immediate u
-operandOf Mode.Immediate16 u v w = Operand.Immediate (wordOf u v)
+operandOf Mode.Immediate16 u v w = Operand.Immediate (wordFrom u v)
 operandOf Mode.Direct u v w = Operand.Direct u
-operandOf Mode.Extended u v w = Operand.Extended (wordOf u v)
+operandOf Mode.Extended u v w = Operand.Extended (wordFrom u v)
 operandOf Mode.IndexedX u v w = Operand.IndexedX u
 operandOf Mode.IndexedY u v w = Operand.IndexedY u
 operandOf Mode.Relative u v w = Operand.Relative u
@@ -78,7 +71,7 @@ unfoldable pub instructionOf : ℕ → ℕ → ℕ → ℕ → Decoded
 instructionOf place u v w = Instruction (actionAt place) (operandOf (modeAt place) u v w)
 
 abbrev pub placeIn : Bytes → ℕ
-placeIn f = placeOf (f 0) (f 1)
+placeIn f = opcodePlace (f 0) (f 1)
 
 -- no instruction where the table has 0
 unfoldable pub decodeAt : ℕ → Bytes → Decoded

@@ -1,17 +1,17 @@
-// An inner crate: the instruction of a place in the opcode maps, as an action with an operand. The verdict goes by it; the step goes by the tables' numbers.
+// The instruction at a place of the opcode maps, as an action with an operand. The verdict goes by it; the step goes by the tables' numbers.
 ghost use mathlib.Core.Path.{_≡_};
 ghost use mathlib.Core.List.{map};
 ghost use Prim.Native.Nat.{_<_};
 ghost use Rattle.opcodes.specs.Tables.{actions, modes, actionAt, modeAt};
-ghost use Rattle.opcodes.specs.Numbers.{actionOf, modeOf};
-ghost use Rattle.opcodes.specs.Decode.{wordOf, operandOf, instructionOf};
-use crate::decode::mode_number_at;
-use crate::decode::number_at;
+ghost use Rattle.opcodes.specs.inner.Numbers.{actionOf, modeOf};
+ghost use Rattle.opcodes.specs.Decode.{wordFrom, operandOf, instructionOf};
 use crate::instruction::Action;
 use crate::instruction::Address;
 use crate::instruction::Decoded;
 use crate::instruction::Mode;
 use crate::instruction::Operand;
+use crate::lookup::mode_number_at;
+use crate::lookup::number_at;
 use crate::numbered::action_of;
 use crate::numbered::mode_of;
 
@@ -31,8 +31,8 @@ pub fn mode_at(place: usize, tm: &[u8; 1024]) -> Mode
     mode_of(mode_number_at(place, tm))
 }
 
-fn word_of(high: u8, low: u8) -> u16
-    ensures { λ r. ⌜ r ≡ wordOf high low ⌝ }
+fn word_from(high: u8, low: u8) -> u16
+    ensures { λ r. ⌜ r ≡ wordFrom high low ⌝ }
 {
     (high as u16) * 256 + (low as u16)
 }
@@ -44,9 +44,9 @@ fn operand_of(mode: Mode, u: u8, v: u8, w: u8) -> Operand
     match mode {
         Mode::Inherent => Operand::Inherent,
         Mode::Immediate8 => Operand::Immediate(u as u16),
-        Mode::Immediate16 => Operand::Immediate(word_of(u, v)),
+        Mode::Immediate16 => Operand::Immediate(word_from(u, v)),
         Mode::Direct => Operand::Direct(u),
-        Mode::Extended => Operand::Extended(word_of(u, v)),
+        Mode::Extended => Operand::Extended(word_from(u, v)),
         Mode::IndexedX => Operand::IndexedX(u),
         Mode::IndexedY => Operand::IndexedY(u),
         Mode::Relative => Operand::Relative(u),

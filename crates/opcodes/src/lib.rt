@@ -3,6 +3,6 @@ pub mod instruction; // an action with an operand
 pub mod form; // what an instruction does to PC, SP and memory
 pub mod table; // length, cycles, action and mode of each place
 pub mod condition; // the sixteen tests
-pub mod decode; // from bytes to a place
-pub mod decoder;
+pub mod lookup; // from the first two bytes to a place
+pub mod decoder; // the instruction at a place
 mod numbered; // the actions and modes by their numbers

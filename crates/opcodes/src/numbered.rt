@@ -1,7 +1,7 @@
-// The action and the mode that a number of the tables stands for. The actions go by the groups of opcodes/specs/Numbers.antt: one match of all of them takes far longer to prove.
+// The action and the mode that a number of the tables stands for. The actions go by the groups of opcodes/specs/inner/Numbers.antt: one match of all of them takes far longer to prove.
 ghost use mathlib.Core.Path.{_≡_};
 ghost use Prim.Native.Nat.{_≤_};
-ghost use Rattle.opcodes.specs.Numbers.{actionOf, modeOf};
+ghost use Rattle.opcodes.specs.inner.Numbers.{actionOf, modeOf};
 use crate::instruction::Accumulator;
 use crate::instruction::Action;
 use crate::instruction::Binary;

@@ -3,7 +3,7 @@
 ghost use mathlib.Core.Path.{_≡_};
 ghost use mathlib.Core.List.{map};
 ghost use Rattle.opcodes.specs.Tables.{costs, actions, modes};
-ghost use Rattle.opcodes.specs.Numbers.{actionOf, modeOf};
+ghost use Rattle.opcodes.specs.inner.Numbers.{actionOf, modeOf};
 
 // 256 times the length, and the cycles; 0 where no instruction is.
 #[rattlefmt::skip]

@@ -17,16 +17,17 @@ use Rattle.opcodes.proofs.Fits.{fitting}
 use Rattle.opcodes.proofs.Rule.{entry-word}
 use Rattle.opcodes.proofs.Says.{Said, there-says, nowhere-says, none-there}
 use Rattle.opcodes.specs.Tables.{actionAt, modeAt}
-use Rattle.opcodes.specs.Numbers.{actionOf, modeOf}
-use Rattle.opcodes.specs.Fits.{fits}
-use Rattle.opcodes.specs.Decode.{placeOf, foundOf, instructionOf, placeIn, decodeAt}
+use Rattle.opcodes.specs.inner.Numbers.{actionOf, modeOf}
+use Rattle.opcodes.specs.inner.Fits.{fits}
+use Rattle.opcodes.specs.Decode.{opcodePlace, instructionOf, placeIn, decodeAt}
+use Rattle.opcodes.specs.inner.Lookup.{foundOf}
 use Rattle.opcodes.specs.Form.{formOf, waits}
-use Rattle.opcodes.specs.declared.decode.Found.{Found}
-use Rattle.opcodes.specs.declared.decode.Found.the-variants as Found
+use Rattle.opcodes.specs.declared.lookup.Found.{Found}
+use Rattle.opcodes.specs.declared.lookup.Found.the-variants as Found
 use Rattle.opcodes.specs.declared.instruction.Operand.{Operand}
 use Rattle.opcodes.specs.declared.instruction.Decoded.the-variants.{Instruction}
-use Rattle.instructions.specs.Effect.{Effect, effectOf, Executed}
-use Rattle.instructions.specs.Sited.{operandFrom}
+use Rattle.instructions.specs.Effect.{Effect, effectOf}
+use Rattle.instructions.specs.inner.Sited.{operandFrom, Executed}
 use Rattle.stepper.specs.Answer.{done, refused}
 use Rattle.stepper.specs.Step.{fetched, carriedOut, didOf, stepOf, After}
 use Rattle.stepper.specs.Advance.{Waiting, stepped}
@@ -39,8 +40,8 @@ unfit r m n = simp (ne-eqb _ _ n)
 abbrev pub foundAt : Registers → List ℕ → Found
 foundAt r m = foundOf (byteAt m (r .pc)) (byteAt m (wrappingAdd (r .pc) 1))
 
-place : (r : Registers) (m : List ℕ) → r .pc < 65536 → placeIn (fetched m (r .pc)) ≡ placeOf (byteAt m (r .pc)) (byteAt m (wrappingAdd (r .pc) 1))
-place r m low = ap (λ (a : ℕ). placeOf (byteAt m a) (byteAt m (wrappingAdd (r .pc) 1))) (plus-zero (r .pc) low)
+place : (r : Registers) (m : List ℕ) → r .pc < 65536 → placeIn (fetched m (r .pc)) ≡ opcodePlace (byteAt m (r .pc)) (byteAt m (wrappingAdd (r .pc) 1))
+place r m low = ap (λ (a : ℕ). opcodePlace (byteAt m a) (byteAt m (wrappingAdd (r .pc) 1))) (plus-zero (r .pc) low)
 
 pub nowhere : (r : Registers) (m : List ℕ) → length m ≡ 65536 → r .pc < 65536 → foundAt r m ≡ Found.Nothing
     → stepOf r m ≡ record { answer = refused 22 (r .pc); memory = m }

@@ -8,7 +8,7 @@ use native.Mathlib.Omega.{arith}
 use lib.Dec.{eqb, leb, ltb, leb·zero, leb·suc-zero, leb·suc-suc}
 use lib.ListN.{getD, replicate, List·getD-map}
 use borrow.Author.Tests.{ltb-false}
-use Rattle.opcodes.specs.Numbers.{allActions, actionOf}
+use Rattle.opcodes.specs.inner.Numbers.{allActions, actionOf}
 use Rattle.opcodes.specs.Form.{formOf, waits, targetIn}
 use Rattle.opcodes.specs.declared.instruction.Action.{Action}
 use Rattle.opcodes.specs.declared.instruction.Action.the-variants.{Inherent, Unary, TstAccumulator, Binary, TstMemory, LoadWord, Addd, Subd, CompareWord, StoreByte, StoreWord, Modify, Bset, Bclr, Brset, Brclr, Branch, Jmp, Call, Rts, PushByte, PushWord, PullByte, PullWord, Des, Ins, SetStack, Swi, Rti, Wai, Stop, Test}

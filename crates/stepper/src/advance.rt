@@ -5,18 +5,18 @@ ghost use lib.ListN.{length};
 ghost use Rattle.registers.specs.Word.{wrappingAdd};
 ghost use Rattle.memory.specs.Memory.{byteAt};
 ghost use Rattle.opcodes.specs.Tables.{costs};
-ghost use Rattle.opcodes.specs.Numbers.{actionOf};
-ghost use Rattle.opcodes.specs.Decode.{foundOf};
+ghost use Rattle.opcodes.specs.inner.Numbers.{actionOf};
+ghost use Rattle.opcodes.specs.inner.Lookup.{foundOf};
 ghost use Rattle.stepper.specs.Answer.{ranOf};
 ghost use Rattle.stepper.specs.Advance.{Waiting, goOf};
 use crate::answer::Ran;
 use crate::answer::Refusal;
 use dispatch::execute;
 use memory::byte_at;
-use opcodes::decode::Found;
-use opcodes::decode::found_of;
-use opcodes::decode::mode_number_at;
-use opcodes::decode::number_at;
+use opcodes::lookup::Found;
+use opcodes::lookup::found_of;
+use opcodes::lookup::mode_number_at;
+use opcodes::lookup::number_at;
 use opcodes::table::actions;
 use opcodes::table::costs;
 use opcodes::table::modes;
@@ -56,7 +56,11 @@ pub fn go(r: Registers, mem: &mut [u8], budget: u32) -> Ran
             Found::Nothing => {
                 return Ran::Refused(q, Cycles(budget - left), Refusal::NoInstruction(pc));
             }
-            Found::At(place, size, e) => {
+            Found::At {
+                place,
+                size,
+                cost: e,
+            } => {
                 let n = number_at(place, &ta);
                 if waits(n) {
                     return Ran::Refused(q, Cycles(budget - left), Refusal::Waits(pc));

@@ -10,7 +10,7 @@ use crate::advance::go;
 use crate::answer::Ran;
 use crate::answer::Refusal;
 use crate::answer::Stepped;
-use opcodes::decode::Found;
+use opcodes::lookup::Found;
 use opcodes::table::costs;
 use registers::Cycles;
 use registers::Registers;
@@ -48,7 +48,11 @@ pub fn step(r: Registers, mem: &mut [u8]) -> Stepped
     let pc = r.pc;
     match find(mem, pc, &tc) {
         Found::Nothing => Stepped::Refused(Refusal::NoInstruction(pc)),
-        Found::At(_, _, e) => stepped(go(r, mem, e % 256)),
+        Found::At {
+            place: _,
+            size: _,
+            cost: e,
+        } => stepped(go(r, mem, e % 256)),
     }
 }
 

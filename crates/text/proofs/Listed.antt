@@ -9,8 +9,9 @@ use borrow.Author.Tests.{eq-eqb, ne-eqb}
 use Rattle.opcodes.proofs.Rule.{entry-word}
 use Rattle.opcodes.proofs.Says.{Said, there-says, nowhere-says, entry}
 use Rattle.opcodes.specs.Tables.{costAt}
-use Rattle.opcodes.specs.Decode.{Bytes, placeIn, opcodeSize, foundOf}
-use Rattle.opcodes.specs.declared.decode.Found.the-variants as Found
+use Rattle.opcodes.specs.Decode.{Bytes, placeIn, opcodeSize}
+use Rattle.opcodes.specs.inner.Lookup.{foundOf}
+use Rattle.opcodes.specs.declared.lookup.Found.the-variants as Found
 use Rattle.text.specs.declared.listing.Listing.{Listing}
 use Rattle.text.specs.Listing.{bytesText, noListing, listingAt, listingOf, five}
 

@@ -5,7 +5,7 @@ use Prim.Native.String.{String}
 use mathlib.Core.Bool.{cond}
 use mathlib.Core.List.{List, [], _∷_, _++_}
 use lib.ListN.{getD}
-use Rattle.opcodes.specs.Fits.{relativeMode}
+use Rattle.opcodes.specs.inner.Fits.{relativeMode}
 use Rattle.opcodes.specs.declared.instruction.Action.{Action}
 use Rattle.opcodes.specs.declared.instruction.Action.the-variants.{Inherent, Unary, TstAccumulator, Binary, TstMemory, LoadWord, Addd, Subd, CompareWord, StoreByte, StoreWord, Modify, Bset, Bclr, Brset, Brclr, Branch, Jmp, Call, Rts, PushByte, PushWord, PullByte, PullWord, Des, Ins, SetStack, Swi, Rti, Wai, Stop, Test}
 use Rattle.opcodes.specs.declared.instruction.Inherent.{Inherent as Registers}

@@ -8,10 +8,10 @@ ghost use Rattle.text.specs.Listing.{bytesText, five, listingOf, columnO
 use crate::mnemonic::mnemonic;
 use crate::number::hex2;
 use crate::operand::operand;
-use opcodes::decode::Found;
-use opcodes::decode::found_of;
 use opcodes::decoder::action_at;
 use opcodes::decoder::mode_at;
+use opcodes::lookup::Found;
+use opcodes::lookup::found_of;
 use opcodes::table::actions;
 use opcodes::table::costs;
 use opcodes::table::modes;
@@ -85,7 +85,11 @@ pub fn list(pc: u16, a: u8, b: u8, c: u8, d: u8, e: u8) -> Listing
             mnemonic: [b'-', b' ', b' ', b' ', b' '],
             operand: [b' '; 17],
         },
-        Found::At(place, n, k) => {
+        Found::At {
+            place,
+            size: n,
+            cost: k,
+        } => {
             let size = (k / 256) as u16;
             let text = bytes(size, a, b, c, d, e);
             let next = wrapping_add(pc, size);

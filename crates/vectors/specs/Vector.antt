@@ -6,7 +6,7 @@ use mathlib.Core.List.{List, [], _∷_}
 use lib.ListN.{replicate}
 use Rattle.registers.specs.Word.{wrappingAdd}
 use Rattle.memory.specs.Memory.{byteAt, Store, store, applied}
-use Rattle.opcodes.specs.Decode.{placeOf}
+use Rattle.opcodes.specs.Decode.{opcodePlace}
 use Rattle.stepper.specs.Answer.{done}
 use Rattle.stepper.specs.Step.{After, stepOf}
 use Rattle.vectors.specs.Hex.{byteIn, wordIn, registersIn}
@@ -34,7 +34,7 @@ expectedIn s = applied (storesIn s (58 + 7 * listedIn s) (writtenIn s)) (memoryI
 unfoldable pub placeIn : List ℕ → ℕ
 placeIn s =
     let pc = registersIn s 6 .pc in
-    placeOf (byteAt (memoryIn s) pc) (byteAt (memoryIn s) (wrappingAdd pc 1))
+    opcodePlace (byteAt (memoryIn s) pc) (byteAt (memoryIn s) (wrappingAdd pc 1))
 
 -- the registers, the cycles and the memory that are expected
 unfoldable pub afterIn : List ℕ → After

@@ -9,7 +9,7 @@ use crate::hex::byte_in;
 use crate::hex::word_in;
 use memory::byte_at;
 use memory::put_byte;
-use opcodes::decode::page_of;
+use opcodes::lookup::page_of;
 use registers::word::wrapping_add;
 
 pub fn background() -> [u8; 65536]

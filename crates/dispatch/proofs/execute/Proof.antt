@@ -3,8 +3,8 @@
 use borrow.Author.Needs.{needs}
 use mathlib.Core.Path.{sym, subst}
 use Prim.Native.Nat.{ℕ}
-use Rattle.opcodes.specs.Numbers.{actionOf, modeOf}
-use Rattle.instructions.specs.Sited.{operandFrom, Sited}
+use Rattle.opcodes.specs.inner.Numbers.{actionOf, modeOf}
+use Rattle.instructions.specs.inner.Sited.{operandFrom, Sited}
 use Rattle.dispatch.proofs.Sited.{sited}
 use Rattle.dispatch.proofs.execute.Statement.{statement}
 use Rattle.dispatch.proofs.execute.Tie as tie

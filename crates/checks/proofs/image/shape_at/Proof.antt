@@ -3,7 +3,8 @@
 use borrow.Author.Needs.{needs}
 use mathlib.Core.Path.{_≡_, sym, _∙_}
 use native.Mathlib.Nat.{add-zero, add-assoc}
-use Rattle.opcodes.specs.Decode.{Bytes, foundOf}
+use Rattle.opcodes.specs.Decode.{Bytes}
+use Rattle.opcodes.specs.inner.Lookup.{foundOf}
 use Rattle.rules.specs.Marks.{imageFrom}
 use Rattle.opcodes.proofs.Says.{in-tables, entry}
 use Rattle.checks.proofs.ShapeFound.{nowhere-shape, nowhere-size, there-shape, there-size}

@@ -1,10 +1,10 @@
 -- `address` meets its contract: an arm has the mode of its number, and `_` is none.
 -- Assumes nothing.
 use borrow.Author.Needs.{needs}
-use Rattle.opcodes.specs.Numbers.{allModes}
+use Rattle.opcodes.specs.inner.Numbers.{allModes}
 use Rattle.opcodes.specs.declared.instruction.Mode.the-variants.{Inherent}
 use Rattle.opcodes.proofs.Missed.{missed}
-use Rattle.instructions.specs.Sited.{addressAt}
+use Rattle.instructions.specs.inner.Sited.{addressAt}
 use Rattle.instructions.proofs.operand.address.Statement.{statement}
 use Rattle.instructions.proofs.operand.address.Tie as tie
 

@@ -3,7 +3,7 @@
 use borrow.Author.Needs.{needs}
 use native.Mathlib.Omega.{arith}
 use mathlib.Core.Path.{_≡_, sym, _∙_}
-use Rattle.opcodes.specs.Decode.{foundOf}
+use Rattle.opcodes.specs.inner.Lookup.{foundOf}
 use Rattle.opcodes.proofs.Says.{in-tables, entry}
 use Rattle.registers.proofs.Wrap.{plus-zero}
 use Rattle.measure.proofs.Found.{bytes, nowhere-kind, size-small, there-kind}

@@ -1,4 +1,4 @@
--- `opcodes::condition::holds` meets its contract: the index is the low half-byte of the flags.
+-- `condition::holds` meets its contract: the index is the low half-byte of the flags.
 -- Assumes nothing.
 use borrow.Author.Needs.{needs}
 use mathlib.Core.Path.{sym, ap}

@@ -1,9 +1,9 @@
--- `decoder::number::address_action` meets its contract: an arm reads the entry of its number, and `_` is past the end.
+-- `numbered::address_action` meets its contract: an arm reads the entry of its number, and `_` is past the end.
 -- Assumes nothing.
 use mathlib.Core.Path.{sym, ap}
 use native.Mathlib.Omega.{arith}
 use lib.ListN.{List·getD-eq-default}
-use Rattle.opcodes.specs.Numbers.{allActions, actionOf}
+use Rattle.opcodes.specs.inner.Numbers.{allActions, actionOf}
 use Rattle.opcodes.specs.declared.instruction.Action.the-variants.{Test}
 use Rattle.opcodes.proofs.Skipped.{skipped}
 use Rattle.opcodes.proofs.numbered.address_action.Statement.{statement}

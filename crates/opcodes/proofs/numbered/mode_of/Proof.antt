@@ -1,7 +1,7 @@
--- `decoder::number::mode_of` meets its contract: an arm reads the entry of its number, and `_` is past the end.
+-- `numbered::mode_of` meets its contract: an arm reads the entry of its number, and `_` is past the end.
 -- Assumes nothing.
 use mathlib.Core.Path.{sym, ap}
-use Rattle.opcodes.specs.Numbers.{allModes, modeOf}
+use Rattle.opcodes.specs.inner.Numbers.{allModes, modeOf}
 use Rattle.opcodes.specs.declared.instruction.Mode.the-variants.{Inherent}
 use Rattle.opcodes.proofs.Missed.{missed}
 use Rattle.opcodes.proofs.numbered.mode_of.Statement.{statement}

@@ -1,4 +1,4 @@
--- `opcodes::table::actions` meets its contract: antt computes the table of the rows.
+-- `table::actions` meets its contract: antt computes the table of the rows.
 -- Assumes nothing.
 use mathlib.Core.Path.{refl}
 use Rattle.opcodes.specs.Tables.{actions}

@@ -1,4 +1,4 @@
--- `opcodes::table::costs` meets its contract: antt computes the table of the rows.
+-- `table::costs` meets its contract: antt computes the table of the rows.
 -- Assumes nothing.
 use mathlib.Core.Path.{refl}
 use Rattle.opcodes.specs.Tables.{costs}

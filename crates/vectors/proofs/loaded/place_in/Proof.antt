@@ -4,14 +4,14 @@ use mathlib.Core.Path.{_≡_, sym, _∙_}
 use native.Mathlib.Omega.{arith}
 use borrow.Author.Needs.{needs}
 use borrow.Author.Tests.{ne-eqb}
-use Rattle.opcodes.specs.Decode.{pageOf, placeOf}
+use Rattle.opcodes.specs.Decode.{pageOf, opcodePlace}
 use Rattle.vectors.specs.Hex.{registersIn}
 use Rattle.vectors.specs.Vector.{placeIn}
 use Rattle.vectors.proofs.loaded.place_in.Statement.{statement}
 use Rattle.vectors.proofs.loaded.place_in.Tie as tie
 
 returns : tie.Need-returns
-unfolding placeIn placeOf registersIn
+unfolding placeIn opcodePlace registersIn
 returns c =
     let found = c .before .before .byte-at .ensures in
     let memory = c .before .before .before .before .before .memory-in .ensures .0 in
@@ -20,7 +20,7 @@ returns c =
     (simp (← memory, ← pc, ← found, page), omega arith)
 
 returns-2 : tie.Need-returns-2
-unfolding placeIn placeOf registersIn
+unfolding placeIn opcodePlace registersIn
 returns-2 c =
     let at-page = c .before .before .before .before in
     let found = at-page .before .byte-at .ensures in

@@ -1,11 +1,11 @@
--- `opcodes::decode::number_at` meets its contract: the number that is read stands for the action.
+-- `lookup::number_at` meets its contract: the number that is read stands for the action.
 -- Assumes nothing.
 use borrow.Author.Needs.{needs}
 use Rattle.opcodes.specs.Tables.{actions, actionAt}
-use Rattle.opcodes.specs.Numbers.{actionOf}
+use Rattle.opcodes.specs.inner.Numbers.{actionOf}
 use Rattle.opcodes.proofs.Lent.{lent}
-use Rattle.opcodes.proofs.decode.number_at.Statement.{statement}
-use Rattle.opcodes.proofs.decode.number_at.Tie as tie
+use Rattle.opcodes.proofs.lookup.number_at.Statement.{statement}
+use Rattle.opcodes.proofs.lookup.number_at.Tie as tie
 
 returns : tie.Need-returns
 unfolding actionAt

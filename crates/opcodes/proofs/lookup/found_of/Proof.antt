@@ -1,4 +1,4 @@
--- `opcodes::decode::found_of` meets its contract: a prefix has no instruction in the first map.
+-- `lookup::found_of` meets its contract: a prefix has no instruction in the first map.
 -- Assumes nothing.
 use borrow.Author.Needs.{needs}
 use mathlib.Core.Path.{sym, _∙_}
@@ -6,8 +6,8 @@ use Prim.Native.Nat.{_+_}
 use native.Mathlib.Omega.{arith}
 use Rattle.opcodes.proofs.Rule.{entry-word}
 use Rattle.opcodes.proofs.Prefix.{plain, size-1, in-first, paged, entry, there, nowhere}
-use Rattle.opcodes.proofs.decode.found_of.Statement.{statement}
-use Rattle.opcodes.proofs.decode.found_of.Tie as tie
+use Rattle.opcodes.proofs.lookup.found_of.Statement.{statement}
+use Rattle.opcodes.proofs.lookup.found_of.Tie as tie
 
 returns : tie.Need-returns
 returns c =
@@ -37,14 +37,14 @@ returns-4 c =
     let h = paged (a .first) (a .second) (g .result) (g .ensures .0) (c .before .before .if2 .left) in
     there (a .first) (a .second) (a .tc .now) (c .before .before .before .before .before .before .pre) (g .result + a .second) (h .0) 2 (h .1) (c .if3 .left)
 
-cast-e : tie.Need-cast-e
-cast-e c =
+cast-cost : tie.Need-cast-cost
+cast-cost c =
     let a = c .before .args in
     let w = entry-word (a .first) in
     omega (arith, w, entry (a .tc .now) (c .before .pre) (a .first))
 
-cast-k : tie.Need-cast-k
-cast-k c =
+cast-paged-cost : tie.Need-cast-paged-cost
+cast-paged-cost c =
     let b = c .before .before .before .before .before in
     let p = c .before .before .page-of .result + b .args .second in
     let w = entry-word p in
@@ -56,7 +56,7 @@ found-of-spec =
     (tie.spec
     (search needs)
     (search needs)
-    cast-e
+    cast-cost
     returns
     (search needs)
     returns-2
@@ -64,6 +64,6 @@ found-of-spec =
     (search needs)
     (search needs)
     (search needs)
-    cast-k
+    cast-paged-cost
     returns-3
     returns-4)

@@ -2,8 +2,8 @@
 -- Assumes nothing.
 use borrow.Author.Needs.{needs}
 use Rattle.instructions.specs.Outcome.{accumulatorOf}
-use Rattle.instructions.proofs.compute.accumulator.Statement.{statement}
-use Rattle.instructions.proofs.compute.accumulator.Tie as tie
+use Rattle.instructions.proofs.named.accumulator.Statement.{statement}
+use Rattle.instructions.proofs.named.accumulator.Tie as tie
 
 pub accumulator-spec : {M : Type 1} → statement M
 unfolding accumulatorOf

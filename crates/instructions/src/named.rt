@@ -1,7 +1,7 @@
-// Registers by name, and the tests of a bit instruction.
+// The registers by name: what an action has as its data.
 ghost use mathlib.Core.Path.{_≡_};
 ghost use Rattle.registers.specs.Registers.{dataOf, withData};
-ghost use Rattle.instructions.specs.Outcome.{accumulatorOf, withAccumulator, indexOf, withIndex, wordOf, toWord, allSet, noneSet};
+ghost use Rattle.instructions.specs.Outcome.{accumulatorOf, withAccumulator, indexOf, withIndex, wordRegisterOf, toWord};
 use opcodes::instruction::Accumulator;
 use opcodes::instruction::Index;
 use opcodes::instruction::Word;
@@ -43,8 +43,8 @@ pub fn with_index(i: Index, r: Registers, v: u16) -> Registers
     }
 }
 
-pub fn word(w: Word, r: Registers) -> u16
-    ensures { λ v. ⌜ v ≡ wordOf w (r .sp) (dataOf r) ⌝ }
+pub fn word_register(w: Word, r: Registers) -> u16
+    ensures { λ v. ⌜ v ≡ wordRegisterOf w (r .sp) (dataOf r) ⌝ }
 {
     match w {
         Word::D => r.d(),
@@ -64,16 +64,4 @@ pub fn to_word(w: Word, r: Registers, v: u16, f: u8) -> Registers
         Word::Y => r.with_y(v, f),
         Word::S => r.with_flags(f),
     }
-}
-
-pub fn all_set(v: u8, k: u8) -> bool
-    ensures { λ r. ⌜ r ≡ allSet v k ⌝ }
-{
-    (v & k) == k
-}
-
-pub fn none_set(v: u8, k: u8) -> bool
-    ensures { λ r. ⌜ r ≡ noneSet v k ⌝ }
-{
-    (v & k) == 0
 }

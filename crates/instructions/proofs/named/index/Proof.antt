@@ -2,8 +2,8 @@
 -- Assumes nothing.
 use borrow.Author.Needs.{needs}
 use Rattle.instructions.specs.Outcome.{indexOf}
-use Rattle.instructions.proofs.compute.index.Statement.{statement}
-use Rattle.instructions.proofs.compute.index.Tie as tie
+use Rattle.instructions.proofs.named.index.Statement.{statement}
+use Rattle.instructions.proofs.named.index.Tie as tie
 
 pub index-spec : {M : Type 1} → statement M
 unfolding indexOf

@@ -1,11 +1,11 @@
--- `opcodes::decode::mode_number_at` meets its contract: the number that is read stands for the mode.
+-- `lookup::mode_number_at` meets its contract: the number that is read stands for the mode.
 -- Assumes nothing.
 use borrow.Author.Needs.{needs}
 use Rattle.opcodes.specs.Tables.{modes, modeAt}
-use Rattle.opcodes.specs.Numbers.{modeOf}
+use Rattle.opcodes.specs.inner.Numbers.{modeOf}
 use Rattle.opcodes.proofs.Lent.{lent}
-use Rattle.opcodes.proofs.decode.mode_number_at.Statement.{statement}
-use Rattle.opcodes.proofs.decode.mode_number_at.Tie as tie
+use Rattle.opcodes.proofs.lookup.mode_number_at.Statement.{statement}
+use Rattle.opcodes.proofs.lookup.mode_number_at.Tie as tie
 
 returns : tie.Need-returns
 unfolding modeAt

@@ -2,8 +2,8 @@
 -- Assumes nothing.
 use borrow.Author.Needs.{needs}
 use Rattle.instructions.specs.Outcome.{withAccumulator}
-use Rattle.instructions.proofs.compute.with_accumulator.Statement.{statement}
-use Rattle.instructions.proofs.compute.with_accumulator.Tie as tie
+use Rattle.instructions.proofs.named.with_accumulator.Statement.{statement}
+use Rattle.instructions.proofs.named.with_accumulator.Tie as tie
 
 pub with-accumulator-spec : {M : Type 1} → statement M
 unfolding withAccumulator

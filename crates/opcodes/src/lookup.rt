@@ -1,15 +1,16 @@
-// What stands at an address, by its bytes: the place in the opcode maps with its entry, and the numbers of its action and mode.
+// The place of an instruction in the opcode maps, by its first two bytes; and what the tables have at a place.
 ghost use mathlib.Core.Path.{_≡_};
 ghost use mathlib.Core.List.{map};
 ghost use Prim.Native.Nat.{_<_, _≤_};
 ghost use Rattle.opcodes.specs.Tables.{costs, actions, modes, actionAt, modeAt};
-ghost use Rattle.opcodes.specs.Numbers.{actionOf, modeOf};
-ghost use Rattle.opcodes.specs.Decode.{pageOf, foundOf};
+ghost use Rattle.opcodes.specs.inner.Numbers.{actionOf, modeOf};
+ghost use Rattle.opcodes.specs.Decode.{pageOf};
+ghost use Rattle.opcodes.specs.inner.Lookup.{foundOf};
 
-// The place of an instruction in the maps, how many bytes its opcode has, and its entry in the table of costs: an index and a count of cycles
-// as the loop that runs instructions has them.
+// An instruction's place in the maps, how many bytes its opcode has, and its entry in the table of costs. Each has the
+// width that the loop of the stepper takes it in: an index, a part of an address, a count of cycles.
 pub enum Found {
-    At(usize, u16, u32),
+    At { place: usize, size: u16, cost: u32 },
     Nothing,
 }
 
@@ -30,21 +31,29 @@ pub fn found_of(first: u8, second: u8, tc: &[u16; 1024]) -> Found
     requires { ⌜ now tc ≡ costs ⌝ }
     ensures { λ r. ⌜ r ≡ foundOf first second ⌝ }
 {
-    let i = first as usize;
-    let e = tc[i] as u32;
-    if e != 0 {
-        return Found::At(i, 1, e);
+    let place = first as usize;
+    let cost = tc[place] as u32;
+    if cost != 0 {
+        return Found::At {
+            place: place,
+            size: 1,
+            cost: cost,
+        };
     }
     let page = page_of(first);
     if page == 0 {
         return Found::Nothing;
     }
-    let j = (page + (second as u16)) as usize;
-    let k = tc[j] as u32;
-    if k == 0 {
+    let paged = (page + (second as u16)) as usize;
+    let paged_cost = tc[paged] as u32;
+    if paged_cost == 0 {
         return Found::Nothing;
     }
-    Found::At(j, 2, k)
+    Found::At {
+        place: paged,
+        size: 2,
+        cost: paged_cost,
+    }
 }
 
 // The number of the action of a place.

@@ -1,11 +1,11 @@
--- `opcodes::decode::page_of` meets its contract: by the byte that was matched.
+-- `lookup::page_of` meets its contract: by the byte that was matched.
 -- Assumes nothing.
 use borrow.Author.Needs.{needs}
 use borrow.Author.Tests.{ne-eqb}
 use mathlib.Core.Path.{sym, ap}
 use Rattle.opcodes.specs.Decode.{pageOf}
-use Rattle.opcodes.proofs.decode.page_of.Statement.{statement}
-use Rattle.opcodes.proofs.decode.page_of.Tie as tie
+use Rattle.opcodes.proofs.lookup.page_of.Statement.{statement}
+use Rattle.opcodes.proofs.lookup.page_of.Tie as tie
 
 returns : tie.Need-returns
 unfolding pageOf

@@ -2,8 +2,8 @@
 -- Assumes nothing.
 use borrow.Author.Needs.{needs}
 use Rattle.instructions.specs.Outcome.{withIndex}
-use Rattle.instructions.proofs.compute.with_index.Statement.{statement}
-use Rattle.instructions.proofs.compute.with_index.Tie as tie
+use Rattle.instructions.proofs.named.with_index.Statement.{statement}
+use Rattle.instructions.proofs.named.with_index.Tie as tie
 
 pub with-index-spec : {M : Type 1} → statement M
 unfolding withIndex

@@ -2,8 +2,8 @@
 -- Assumes nothing.
 use borrow.Author.Needs.{needs}
 use Rattle.instructions.specs.Outcome.{toWord}
-use Rattle.instructions.proofs.compute.to_word.Statement.{statement}
-use Rattle.instructions.proofs.compute.to_word.Tie as tie
+use Rattle.instructions.proofs.named.to_word.Statement.{statement}
+use Rattle.instructions.proofs.named.to_word.Tie as tie
 
 pub to-word-spec : {M : Type 1} → statement M
 unfolding toWord

@@ -14,7 +14,7 @@ use Rattle.opcodes.specs.declared.instruction.Mode.{Mode}
 use Rattle.opcodes.specs.declared.instruction.Mode.the-variants as Mode
 use Rattle.opcodes.specs.declared.instruction.Operand.{Operand}
 use Rattle.instructions.specs.Operand.{operandAddress, byteOperand, wordOperand, maskOf}
-use Rattle.instructions.specs.Effect.{effectOf, Executed}
+use Rattle.instructions.specs.Effect.{effectOf}
 
 -- the operand of a mode, whose bytes start at an address
 abbrev pub operandFrom : Mode → ℕ → List ℕ → Operand
@@ -87,6 +87,10 @@ Sited Rti o r m at from = Unit {0}
 Sited Wai o r m at from = Unit {0}
 Sited Stop o r m at from = Unit {0}
 Sited Test o r m at from = Unit {0}
+
+-- q and m′ are the registers and the memory after the effect e, from the memory m
+abbrev pub Executed : Effect → Registers → List ℕ → List ℕ → Type 0
+Executed e q m m′ = (q ≡ e .regs) × (m′ ≡ applied (e .stores) m)
 
 -- ---- the effect of an action, from the registers r and the memory m to q and m′
 
