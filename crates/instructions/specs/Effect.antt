@@ -2,13 +2,12 @@
 -- the form, the rest from what is computed over values (the manual's "Operation" of each entry; document 01, "The machine").
 -- Assumes nothing.
 use Prim.Native.Nat.{ℕ}
-use mathlib.Core.Path.{_≡_}
 use mathlib.Core.Bool.{cond}
 use mathlib.Core.List.{List, [], _∷_}
 use Rattle.registers.specs.Word.{wrappingAdd, wrappingSub}
 use Rattle.registers.specs.Registers.{withData, withPc, withSp, withPcSp}
 use Rattle.registers.specs.declared.Registers.{Registers}
-use Rattle.memory.specs.Memory.{wordAt, Store, store, wordStores, pushStores, applied}
+use Rattle.memory.specs.Memory.{wordAt, Store, store, wordStores, pushStores}
 use Rattle.opcodes.specs.Form.{formOf}
 use Rattle.opcodes.specs.declared.instruction.Action.{Action}
 use Rattle.opcodes.specs.declared.instruction.Operand.{Operand}

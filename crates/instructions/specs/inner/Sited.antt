@@ -5,7 +5,7 @@ use mathlib.Core.Path.{_≡_}
 use mathlib.Core.List.{List}
 use Rattle.registers.specs.Word.{wrappingAdd, targetOf}
 use Rattle.registers.specs.declared.Registers.{Registers}
-use Rattle.memory.specs.Memory.{byteAt, wordAt}
+use Rattle.memory.specs.Memory.{byteAt, wordAt, applied}
 use Rattle.opcodes.specs.Decode.{operandOf}
 use Rattle.opcodes.specs.Form.{targetIn}
 use Rattle.opcodes.specs.declared.instruction.Action.{Action}
@@ -14,7 +14,7 @@ use Rattle.opcodes.specs.declared.instruction.Mode.{Mode}
 use Rattle.opcodes.specs.declared.instruction.Mode.the-variants as Mode
 use Rattle.opcodes.specs.declared.instruction.Operand.{Operand}
 use Rattle.instructions.specs.Operand.{operandAddress, byteOperand, wordOperand, maskOf}
-use Rattle.instructions.specs.Effect.{effectOf}
+use Rattle.instructions.specs.Effect.{Effect, effectOf}
 
 -- the operand of a mode, whose bytes start at an address
 abbrev pub operandFrom : Mode → ℕ → List ℕ → Operand
