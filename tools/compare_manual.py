@@ -17,7 +17,7 @@ from collections import Counter
 sys.dont_write_bytecode = True  # no __pycache__ beside the sources
 from manual import HEAD, Entry, Unread, columns
 from misprints import MISPRINTS
-from rows import rows
+from rows import ALIASES, mnemonic, rows
 
 COMPARED = ["mode", "opcode", "operands", "length", "cycles"]
 
@@ -39,37 +39,16 @@ MODES = {
     "MaskBranchX": ("IND,X", "ff mm rr"),
     "MaskBranchY": ("IND,Y", "ff mm rr"),
 }
-# The mnemonic of an action that has operands: the stem with their names. Others have their own name.
-STEMS = {
-    "Inherent": "{}", "Unary": "{}{}", "Binary": "{}{}", "Modify": "{}", "TstAccumulator": "TST{}",
-    "LoadWord": "LD{}", "StoreByte": "STA{}", "StoreWord": "ST{}", "CompareWord": "CP{}",
-    "PushByte": "PSH{}", "PushWord": "PSH{}", "PullByte": "PUL{}", "PullWord": "PUL{}", "SetStack": "T{}S",
-}
-BRANCHES = "BRA BRN BHI BLS BCC BCS BNE BEQ BVC BVS BPL BMI BGE BLT BGT BLE".split()
-# Second names. The manual says of ASL, ASLD, BCC and BCS that they are the same as LSL, LSLD, BHS and BLO.
-ALIASES = {"LSLA": "ASLA", "LSLB": "ASLB", "LSL": "ASL", "LSLD": "ASLD", "BHS": "BCC", "BLO": "BCS"}
 
 # A reason's quotation: a column's head, its opcode, and perhaps its operands and its cycles.
 QUOTED = HEAD + r" ([0-9A-F]{2}(?: [0-9A-F]{2})?(?: (?:ii|jj|kk|dd|hh|ll|ff|mm|rr)\b)*(?:, \d+ cycles)?)"
-
-
-def mnemonic(row):
-    """The manual's name for a row's action."""
-    kind, *operands = row.action.split()
-    if kind == "Branch":
-        return BRANCHES[int(operands[0])]
-    if kind == "Call":
-        return "BSR" if row.mode == "Relative" else "JSR"
-    if kind == "TstMemory":
-        return "TST"
-    return STEMS.get(kind, kind).format(*(o.split(".")[-1] for o in operands)).upper()
 
 
 def entry_of(row):
     """What a row says, as a column would."""
     mode, operands = MODES[row.mode]
     opcode = f"{PREFIX[row.place // 256]}{row.place % 256:02X}"
-    return Entry(mnemonic(row), mode, opcode, operands, str(row.length), str(row.cycles), f"row 0x{row.place:03x}")
+    return Entry(mnemonic(row.action, row.mode), mode, opcode, operands, str(row.length), str(row.cycles), f"row 0x{row.place:03x}")
 
 
 def rows_of(col, entries):

@@ -56,36 +56,36 @@ fn on_registers(n: u8, r: Registers) -> Registers
     ensures { λ q. ⌜ Leaves (actionOf n) r q ⌝ }
 {
     match n {
-        0 => inherent(Inherent::Nop, r),
-        1 => inherent(Inherent::Idiv, r),
-        2 => inherent(Inherent::Fdiv, r),
-        3 => inherent(Inherent::Lsrd, r),
-        4 => inherent(Inherent::Asld, r),
-        5 => inherent(Inherent::Tap, r),
-        6 => inherent(Inherent::Tpa, r),
-        7 => inherent(Inherent::Inx, r),
-        8 => inherent(Inherent::Dex, r),
-        9 => inherent(Inherent::Iny, r),
-        10 => inherent(Inherent::Dey, r),
-        11 => inherent(Inherent::Clv, r),
-        12 => inherent(Inherent::Sev, r),
-        13 => inherent(Inherent::Clc, r),
-        14 => inherent(Inherent::Sec, r),
-        15 => inherent(Inherent::Cli, r),
-        16 => inherent(Inherent::Sei, r),
-        17 => inherent(Inherent::Sba, r),
-        18 => inherent(Inherent::Cba, r),
-        19 => inherent(Inherent::Tab, r),
-        20 => inherent(Inherent::Tba, r),
-        21 => inherent(Inherent::Daa, r),
-        22 => inherent(Inherent::Aba, r),
-        23 => inherent(Inherent::Tsx, r),
-        24 => inherent(Inherent::Tsy, r),
-        25 => inherent(Inherent::Abx, r),
-        26 => inherent(Inherent::Aby, r),
-        27 => inherent(Inherent::Mul, r),
-        28 => inherent(Inherent::Xgdx, r),
-        29 => inherent(Inherent::Xgdy, r),
+        0 => inherent(Inherent::Nop, r), // NOP
+        1 => inherent(Inherent::Idiv, r), // IDIV
+        2 => inherent(Inherent::Fdiv, r), // FDIV
+        3 => inherent(Inherent::Lsrd, r), // LSRD
+        4 => inherent(Inherent::Asld, r), // ASLD, LSLD
+        5 => inherent(Inherent::Tap, r), // TAP
+        6 => inherent(Inherent::Tpa, r), // TPA
+        7 => inherent(Inherent::Inx, r), // INX
+        8 => inherent(Inherent::Dex, r), // DEX
+        9 => inherent(Inherent::Iny, r), // INY
+        10 => inherent(Inherent::Dey, r), // DEY
+        11 => inherent(Inherent::Clv, r), // CLV
+        12 => inherent(Inherent::Sev, r), // SEV
+        13 => inherent(Inherent::Clc, r), // CLC
+        14 => inherent(Inherent::Sec, r), // SEC
+        15 => inherent(Inherent::Cli, r), // CLI
+        16 => inherent(Inherent::Sei, r), // SEI
+        17 => inherent(Inherent::Sba, r), // SBA
+        18 => inherent(Inherent::Cba, r), // CBA
+        19 => inherent(Inherent::Tab, r), // TAB
+        20 => inherent(Inherent::Tba, r), // TBA
+        21 => inherent(Inherent::Daa, r), // DAA
+        22 => inherent(Inherent::Aba, r), // ABA
+        23 => inherent(Inherent::Tsx, r), // TSX
+        24 => inherent(Inherent::Tsy, r), // TSY
+        25 => inherent(Inherent::Abx, r), // ABX
+        26 => inherent(Inherent::Aby, r), // ABY
+        27 => inherent(Inherent::Mul, r), // MUL
+        28 => inherent(Inherent::Xgdx, r), // XGDX
+        29 => inherent(Inherent::Xgdy, r), // XGDY
         _ => r,
     }
 }
@@ -98,43 +98,43 @@ fn on_stack(n: u8, r: Registers, mem: &mut [u8]) -> Registers
     ensures { λ q. ⌜ Does (actionOf n) r (now (mem .entry)) q (now (mem .exit)) ⌝ }
 {
     match n {
-        30 => unary_on(Unary::Neg, Accumulator::A, r),
-        31 => unary_on(Unary::Com, Accumulator::A, r),
-        32 => unary_on(Unary::Lsr, Accumulator::A, r),
-        33 => unary_on(Unary::Ror, Accumulator::A, r),
-        34 => unary_on(Unary::Asr, Accumulator::A, r),
-        35 => unary_on(Unary::Asl, Accumulator::A, r),
-        36 => unary_on(Unary::Rol, Accumulator::A, r),
-        37 => unary_on(Unary::Dec, Accumulator::A, r),
-        38 => unary_on(Unary::Inc, Accumulator::A, r),
-        39 => unary_on(Unary::Clr, Accumulator::A, r),
-        40 => unary_on(Unary::Neg, Accumulator::B, r),
-        41 => unary_on(Unary::Com, Accumulator::B, r),
-        42 => unary_on(Unary::Lsr, Accumulator::B, r),
-        43 => unary_on(Unary::Ror, Accumulator::B, r),
-        44 => unary_on(Unary::Asr, Accumulator::B, r),
-        45 => unary_on(Unary::Asl, Accumulator::B, r),
-        46 => unary_on(Unary::Rol, Accumulator::B, r),
-        47 => unary_on(Unary::Dec, Accumulator::B, r),
-        48 => unary_on(Unary::Inc, Accumulator::B, r),
-        49 => unary_on(Unary::Clr, Accumulator::B, r),
-        50 => test_accumulator(Accumulator::A, r),
-        51 => test_accumulator(Accumulator::B, r),
-        52 => return_from(r, mem),
-        53 => push_byte(Accumulator::A, r, mem),
-        54 => push_byte(Accumulator::B, r, mem),
-        55 => push_word(Index::X, r, mem),
-        56 => push_word(Index::Y, r, mem),
-        57 => pull_byte(Accumulator::A, r, mem),
-        58 => pull_byte(Accumulator::B, r, mem),
-        59 => pull_word(Index::X, r, mem),
-        60 => pull_word(Index::Y, r, mem),
-        61 => reserve(r),
-        62 => release(r),
-        63 => set_stack(Index::X, r),
-        64 => set_stack(Index::Y, r),
-        65 => interrupt(r, mem),
-        66 => resume(r, mem),
+        30 => unary_on(Unary::Neg, Accumulator::A, r), // NEGA
+        31 => unary_on(Unary::Com, Accumulator::A, r), // COMA
+        32 => unary_on(Unary::Lsr, Accumulator::A, r), // LSRA
+        33 => unary_on(Unary::Ror, Accumulator::A, r), // RORA
+        34 => unary_on(Unary::Asr, Accumulator::A, r), // ASRA
+        35 => unary_on(Unary::Asl, Accumulator::A, r), // ASLA, LSLA
+        36 => unary_on(Unary::Rol, Accumulator::A, r), // ROLA
+        37 => unary_on(Unary::Dec, Accumulator::A, r), // DECA
+        38 => unary_on(Unary::Inc, Accumulator::A, r), // INCA
+        39 => unary_on(Unary::Clr, Accumulator::A, r), // CLRA
+        40 => unary_on(Unary::Neg, Accumulator::B, r), // NEGB
+        41 => unary_on(Unary::Com, Accumulator::B, r), // COMB
+        42 => unary_on(Unary::Lsr, Accumulator::B, r), // LSRB
+        43 => unary_on(Unary::Ror, Accumulator::B, r), // RORB
+        44 => unary_on(Unary::Asr, Accumulator::B, r), // ASRB
+        45 => unary_on(Unary::Asl, Accumulator::B, r), // ASLB, LSLB
+        46 => unary_on(Unary::Rol, Accumulator::B, r), // ROLB
+        47 => unary_on(Unary::Dec, Accumulator::B, r), // DECB
+        48 => unary_on(Unary::Inc, Accumulator::B, r), // INCB
+        49 => unary_on(Unary::Clr, Accumulator::B, r), // CLRB
+        50 => test_accumulator(Accumulator::A, r), // TSTA
+        51 => test_accumulator(Accumulator::B, r), // TSTB
+        52 => return_from(r, mem), // RTS
+        53 => push_byte(Accumulator::A, r, mem), // PSHA
+        54 => push_byte(Accumulator::B, r, mem), // PSHB
+        55 => push_word(Index::X, r, mem), // PSHX
+        56 => push_word(Index::Y, r, mem), // PSHY
+        57 => pull_byte(Accumulator::A, r, mem), // PULA
+        58 => pull_byte(Accumulator::B, r, mem), // PULB
+        59 => pull_word(Index::X, r, mem), // PULX
+        60 => pull_word(Index::Y, r, mem), // PULY
+        61 => reserve(r), // DES
+        62 => release(r), // INS
+        63 => set_stack(Index::X, r), // TXS
+        64 => set_stack(Index::Y, r), // TYS
+        65 => interrupt(r, mem), // SWI
+        66 => resume(r, mem), // RTI
         _ => r,
     }
 }
@@ -147,36 +147,36 @@ fn on_operand(n: u8, at: u16, r: Registers, mem: &[u8]) -> Registers
     ensures { λ q. ⌜ ReadsAt (actionOf n) at r (now (mem .entry)) q ⌝ }
 {
     match n {
-        67 => binary_on(Binary::Sub, Accumulator::A, byte_at(mem, at), r),
-        68 => binary_on(Binary::Cmp, Accumulator::A, byte_at(mem, at), r),
-        69 => binary_on(Binary::Sbc, Accumulator::A, byte_at(mem, at), r),
-        70 => binary_on(Binary::And, Accumulator::A, byte_at(mem, at), r),
-        71 => binary_on(Binary::Bit, Accumulator::A, byte_at(mem, at), r),
-        72 => binary_on(Binary::Lda, Accumulator::A, byte_at(mem, at), r),
-        73 => binary_on(Binary::Eor, Accumulator::A, byte_at(mem, at), r),
-        74 => binary_on(Binary::Adc, Accumulator::A, byte_at(mem, at), r),
-        75 => binary_on(Binary::Ora, Accumulator::A, byte_at(mem, at), r),
-        76 => binary_on(Binary::Add, Accumulator::A, byte_at(mem, at), r),
-        77 => binary_on(Binary::Sub, Accumulator::B, byte_at(mem, at), r),
-        78 => binary_on(Binary::Cmp, Accumulator::B, byte_at(mem, at), r),
-        79 => binary_on(Binary::Sbc, Accumulator::B, byte_at(mem, at), r),
-        80 => binary_on(Binary::And, Accumulator::B, byte_at(mem, at), r),
-        81 => binary_on(Binary::Bit, Accumulator::B, byte_at(mem, at), r),
-        82 => binary_on(Binary::Lda, Accumulator::B, byte_at(mem, at), r),
-        83 => binary_on(Binary::Eor, Accumulator::B, byte_at(mem, at), r),
-        84 => binary_on(Binary::Adc, Accumulator::B, byte_at(mem, at), r),
-        85 => binary_on(Binary::Ora, Accumulator::B, byte_at(mem, at), r),
-        86 => binary_on(Binary::Add, Accumulator::B, byte_at(mem, at), r),
-        87 => test_byte(byte_at(mem, at), r),
-        88 => load_word(Word::D, word_at(mem, at), r),
-        89 => load_word(Word::X, word_at(mem, at), r),
-        90 => load_word(Word::Y, word_at(mem, at), r),
-        91 => load_word(Word::S, word_at(mem, at), r),
-        92 => add_word(word_at(mem, at), r),
-        93 => subtract_word(word_at(mem, at), r),
-        94 => compare_word(Word::D, word_at(mem, at), r),
-        95 => compare_word(Word::X, word_at(mem, at), r),
-        96 => compare_word(Word::Y, word_at(mem, at), r),
+        67 => binary_on(Binary::Sub, Accumulator::A, byte_at(mem, at), r), // SUBA
+        68 => binary_on(Binary::Cmp, Accumulator::A, byte_at(mem, at), r), // CMPA
+        69 => binary_on(Binary::Sbc, Accumulator::A, byte_at(mem, at), r), // SBCA
+        70 => binary_on(Binary::And, Accumulator::A, byte_at(mem, at), r), // ANDA
+        71 => binary_on(Binary::Bit, Accumulator::A, byte_at(mem, at), r), // BITA
+        72 => binary_on(Binary::Lda, Accumulator::A, byte_at(mem, at), r), // LDAA
+        73 => binary_on(Binary::Eor, Accumulator::A, byte_at(mem, at), r), // EORA
+        74 => binary_on(Binary::Adc, Accumulator::A, byte_at(mem, at), r), // ADCA
+        75 => binary_on(Binary::Ora, Accumulator::A, byte_at(mem, at), r), // ORAA
+        76 => binary_on(Binary::Add, Accumulator::A, byte_at(mem, at), r), // ADDA
+        77 => binary_on(Binary::Sub, Accumulator::B, byte_at(mem, at), r), // SUBB
+        78 => binary_on(Binary::Cmp, Accumulator::B, byte_at(mem, at), r), // CMPB
+        79 => binary_on(Binary::Sbc, Accumulator::B, byte_at(mem, at), r), // SBCB
+        80 => binary_on(Binary::And, Accumulator::B, byte_at(mem, at), r), // ANDB
+        81 => binary_on(Binary::Bit, Accumulator::B, byte_at(mem, at), r), // BITB
+        82 => binary_on(Binary::Lda, Accumulator::B, byte_at(mem, at), r), // LDAB
+        83 => binary_on(Binary::Eor, Accumulator::B, byte_at(mem, at), r), // EORB
+        84 => binary_on(Binary::Adc, Accumulator::B, byte_at(mem, at), r), // ADCB
+        85 => binary_on(Binary::Ora, Accumulator::B, byte_at(mem, at), r), // ORAB
+        86 => binary_on(Binary::Add, Accumulator::B, byte_at(mem, at), r), // ADDB
+        87 => test_byte(byte_at(mem, at), r), // TST
+        88 => load_word(Word::D, word_at(mem, at), r), // LDD
+        89 => load_word(Word::X, word_at(mem, at), r), // LDX
+        90 => load_word(Word::Y, word_at(mem, at), r), // LDY
+        91 => load_word(Word::S, word_at(mem, at), r), // LDS
+        92 => add_word(word_at(mem, at), r), // ADDD
+        93 => subtract_word(word_at(mem, at), r), // SUBD
+        94 => compare_word(Word::D, word_at(mem, at), r), // CPD
+        95 => compare_word(Word::X, word_at(mem, at), r), // CPX
+        96 => compare_word(Word::Y, word_at(mem, at), r), // CPY
         _ => r,
     }
 }
@@ -189,54 +189,54 @@ fn on_address(n: u8, at: u16, from: u16, r: Registers, mem: &mut [u8]) -> Regist
     ensures { λ q. ⌜ DoesAt (actionOf n) at from r (now (mem .entry)) q (now (mem .exit)) ⌝ }
 {
     match n {
-        97 => store_byte(Accumulator::A, at, r, mem),
-        98 => store_byte(Accumulator::B, at, r, mem),
-        99 => store_word(Word::D, at, r, mem),
-        100 => store_word(Word::X, at, r, mem),
-        101 => store_word(Word::Y, at, r, mem),
-        102 => store_word(Word::S, at, r, mem),
-        103 => modify(Unary::Neg, at, r, mem),
-        104 => modify(Unary::Com, at, r, mem),
-        105 => modify(Unary::Lsr, at, r, mem),
-        106 => modify(Unary::Ror, at, r, mem),
-        107 => modify(Unary::Asr, at, r, mem),
-        108 => modify(Unary::Asl, at, r, mem),
-        109 => modify(Unary::Rol, at, r, mem),
-        110 => modify(Unary::Dec, at, r, mem),
-        111 => modify(Unary::Inc, at, r, mem),
-        112 => modify(Unary::Clr, at, r, mem),
-        113 => set_bits(mask(from, mem), at, r, mem),
-        114 => clear_bits(mask(from, mem), at, r, mem),
+        97 => store_byte(Accumulator::A, at, r, mem), // STAA
+        98 => store_byte(Accumulator::B, at, r, mem), // STAB
+        99 => store_word(Word::D, at, r, mem), // STD
+        100 => store_word(Word::X, at, r, mem), // STX
+        101 => store_word(Word::Y, at, r, mem), // STY
+        102 => store_word(Word::S, at, r, mem), // STS
+        103 => modify(Unary::Neg, at, r, mem), // NEG
+        104 => modify(Unary::Com, at, r, mem), // COM
+        105 => modify(Unary::Lsr, at, r, mem), // LSR
+        106 => modify(Unary::Ror, at, r, mem), // ROR
+        107 => modify(Unary::Asr, at, r, mem), // ASR
+        108 => modify(Unary::Asl, at, r, mem), // ASL, LSL
+        109 => modify(Unary::Rol, at, r, mem), // ROL
+        110 => modify(Unary::Dec, at, r, mem), // DEC
+        111 => modify(Unary::Inc, at, r, mem), // INC
+        112 => modify(Unary::Clr, at, r, mem), // CLR
+        113 => set_bits(mask(from, mem), at, r, mem), // BSET
+        114 => clear_bits(mask(from, mem), at, r, mem), // BCLR
         115 => branch_set(
             byte_at(mem, at),
             mask(from, mem),
             bit_target(from, r.pc, mem),
             r,
-        ),
+        ), // BRSET
         116 => branch_clear(
             byte_at(mem, at),
             mask(from, mem),
             bit_target(from, r.pc, mem),
             r,
-        ),
-        117 => branch(0, at, r),
-        118 => branch(1, at, r),
-        119 => branch(2, at, r),
-        120 => branch(3, at, r),
-        121 => branch(4, at, r),
-        122 => branch(5, at, r),
-        123 => branch(6, at, r),
-        124 => branch(7, at, r),
-        125 => branch(8, at, r),
-        126 => branch(9, at, r),
-        127 => branch(10, at, r),
-        128 => branch(11, at, r),
-        129 => branch(12, at, r),
-        130 => branch(13, at, r),
-        131 => branch(14, at, r),
-        132 => branch(15, at, r),
-        133 => jump(at, r),
-        134 => call(at, r, mem),
+        ), // BRCLR
+        117 => branch(0, at, r), // BRA
+        118 => branch(1, at, r), // BRN
+        119 => branch(2, at, r), // BHI
+        120 => branch(3, at, r), // BLS
+        121 => branch(4, at, r), // BCC, BHS
+        122 => branch(5, at, r), // BCS, BLO
+        123 => branch(6, at, r), // BNE
+        124 => branch(7, at, r), // BEQ
+        125 => branch(8, at, r), // BVC
+        126 => branch(9, at, r), // BVS
+        127 => branch(10, at, r), // BPL
+        128 => branch(11, at, r), // BMI
+        129 => branch(12, at, r), // BGE
+        130 => branch(13, at, r), // BLT
+        131 => branch(14, at, r), // BGT
+        132 => branch(15, at, r), // BLE
+        133 => jump(at, r), // JMP
+        134 => call(at, r, mem), // JSR, BSR
         _ => r,
     }
 }
