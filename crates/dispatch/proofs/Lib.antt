@@ -1,2 +1,3 @@
 pub mod Sited
 pub mod Arms
+pub mod Waits

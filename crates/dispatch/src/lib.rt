@@ -7,7 +7,7 @@ ghost use Prim.Native.Nat.{_<_, _≤_};
 ghost use Rattle.opcodes.specs.inner.Numbers.{actionOf, modeOf};
 ghost use Rattle.opcodes.specs.inner.Fits.{fits};
 ghost use Rattle.instructions.specs.Effect.{effectOf};
-ghost use Rattle.instructions.specs.inner.Sited.{operandFrom, Does, Leaves, ReadsAt, DoesAt, Executed};
+ghost use Rattle.instructions.specs.inner.Sited.{operandFrom, Does, Leaves, ReadsAt, DoesAt, Executed, Waiting};
 use instructions::inherent::inherent;
 use instructions::interrupt::interrupt;
 use instructions::interrupt::resume;
@@ -239,6 +239,13 @@ fn on_address(n: u8, at: u16, from: u16, r: Registers, mem: &mut [u8]) -> Regist
         134 => call(at, r, mem), // JSR, BSR
         _ => r,
     }
+}
+
+// Whether a number stands for WAI, STOP or TEST, which `execute` does not take: these have the last numbers.
+pub fn waits(n: u8) -> bool
+    ensures { λ b. ⌜ Waiting (actionOf n) b ⌝ }
+{
+    134 < n
 }
 
 // Action n with an operand of mode k, whose bytes start at `from`; PC stands past the instruction.

@@ -1,4 +1,3 @@
-pub mod Waits
 pub mod Next
 pub mod Costs
 pub mod Unchanged

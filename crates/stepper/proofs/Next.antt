@@ -27,10 +27,10 @@ use Rattle.opcodes.specs.declared.lookup.Found.the-variants as Found
 use Rattle.opcodes.specs.declared.instruction.Operand.{Operand}
 use Rattle.opcodes.specs.declared.instruction.Decoded.the-variants.{Instruction}
 use Rattle.instructions.specs.Effect.{Effect, effectOf}
-use Rattle.instructions.specs.inner.Sited.{operandFrom, Executed}
+use Rattle.instructions.specs.inner.Sited.{operandFrom, Executed, Waiting}
 use Rattle.stepper.specs.Answer.{done, refused}
 use Rattle.stepper.specs.Step.{fetched, carriedOut, didOf, stepOf, After}
-use Rattle.stepper.specs.Advance.{Waiting, stepped}
+use Rattle.stepper.specs.Advance.{stepped}
 
 pub unfit : (r : Registers) (m : List ℕ) → (length m ≡ 65536 → ⊥) → stepOf r m ≡ record { answer = refused 21 0; memory = m }
 unfolding stepOf didOf

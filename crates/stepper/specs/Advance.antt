@@ -1,21 +1,13 @@
 -- The next instruction, wherever it stands, and the run from there: what the loop that a step and a run share comes to. An inner matter of the code.
 -- Assumes nothing.
 use Prim.Native.Nat.{ℕ}
-use mathlib.Core.Path.{_≡_}
-use mathlib.Core.Bool.{Bool, false, cond}
+use mathlib.Core.Bool.{false, cond}
 use mathlib.Core.List.{List}
 use lib.Dec.{eqb}
 use Rattle.registers.specs.declared.Registers.{Registers}
-use Rattle.opcodes.specs.Form.{formOf, waits}
-use Rattle.opcodes.specs.declared.instruction.Action.{Action}
-use Rattle.opcodes.specs.declared.instruction.Operand.{Operand}
 use Rattle.stepper.specs.Answer.{Answer, done, refused, RunAnswer, home, spent, refused as runRefused}
 use Rattle.stepper.specs.Step.{After}
 use Rattle.stepper.specs.Run.{AfterRun, turn, runFrom}
-
--- whether an action waits, whatever its operand
-abbrev pub Waiting : Action → Bool → Type 0
-Waiting a b = (o : Operand) (next : ℕ) → waits (formOf a o next) ≡ b
 
 -- a step that is done
 abbrev pub stepped : Registers → ℕ → List ℕ → After

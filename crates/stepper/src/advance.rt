@@ -5,13 +5,13 @@ ghost use lib.ListN.{length};
 ghost use Rattle.registers.specs.Word.{wrappingAdd};
 ghost use Rattle.memory.specs.Memory.{byteAt};
 ghost use Rattle.opcodes.specs.Tables.{costs};
-ghost use Rattle.opcodes.specs.inner.Numbers.{actionOf};
 ghost use Rattle.opcodes.specs.inner.Lookup.{foundOf};
 ghost use Rattle.stepper.specs.Answer.{ranOf};
-ghost use Rattle.stepper.specs.Advance.{Waiting, goOf};
+ghost use Rattle.stepper.specs.Advance.{goOf};
 use crate::answer::Ran;
 use crate::answer::Refusal;
 use dispatch::execute;
+use dispatch::waits;
 use memory::byte_at;
 use opcodes::lookup::Found;
 use opcodes::lookup::found_of;
@@ -23,13 +23,6 @@ use opcodes::table::modes;
 use registers::Cycles;
 use registers::Registers;
 use registers::word::wrapping_add;
-
-// Whether a number stands for WAI, STOP or TEST: these have the last numbers.
-fn waits(n: u8) -> bool
-    ensures { λ b. ⌜ Waiting (actionOf n) b ⌝ }
-{
-    134 < n
-}
 
 // The place of the opcode at PC.
 pub fn find(mem: &[u8], pc: u16, tc: &[u16; 1024]) -> Found

@@ -2,12 +2,13 @@
 -- Assumes nothing.
 use Prim.Native.Nat.{ℕ, _<_}
 use mathlib.Core.Path.{_≡_}
+use mathlib.Core.Bool.{Bool}
 use mathlib.Core.List.{List}
 use Rattle.registers.specs.Word.{wrappingAdd, targetOf}
 use Rattle.registers.specs.declared.Registers.{Registers}
 use Rattle.memory.specs.Memory.{byteAt, wordAt, applied}
 use Rattle.opcodes.specs.Decode.{operandOf}
-use Rattle.opcodes.specs.Form.{targetIn}
+use Rattle.opcodes.specs.Form.{targetIn, formOf, waits}
 use Rattle.opcodes.specs.declared.instruction.Action.{Action}
 use Rattle.opcodes.specs.declared.instruction.Action.the-variants.{Inherent, Unary, TstAccumulator, Binary, TstMemory, LoadWord, Addd, Subd, CompareWord, StoreByte, StoreWord, Modify, Bset, Bclr, Brset, Brclr, Branch, Jmp, Call, Rts, PushByte, PushWord, PullByte, PullWord, Des, Ins, SetStack, Swi, Rti, Wai, Stop, Test}
 use Rattle.opcodes.specs.declared.instruction.Mode.{Mode}
@@ -137,3 +138,7 @@ DoesAt a at from r m q m′ = (o : Operand) → Sited a o r m at from → Execut
 -- wherever its bytes start, with memory as it is
 abbrev pub ReadsAt : Action → ℕ → Registers → List ℕ → Registers → Type 0
 ReadsAt a at r m q = (from : ℕ) → DoesAt a at from r m q m
+
+-- whether an action waits, whatever its operand
+abbrev pub Waiting : Action → Bool → Type 0
+Waiting a b = (o : Operand) (next : ℕ) → waits (formOf a o next) ≡ b

@@ -1,8 +1,8 @@
 -- `waits` meets its contract: WAI, STOP and TEST have the last numbers.
 -- Assumes nothing.
-use Rattle.stepper.proofs.Waits.{waits-from}
-use Rattle.stepper.proofs.advance.waits.Statement.{statement}
-use Rattle.stepper.proofs.advance.waits.Tie as tie
+use Rattle.dispatch.proofs.Waits.{waits-from}
+use Rattle.dispatch.proofs.waits.Statement.{statement}
+use Rattle.dispatch.proofs.waits.Tie as tie
 
 returns : tie.Need-returns
 returns c = waits-from (c .args .n)

@@ -15,7 +15,7 @@ use Rattle.opcodes.specs.declared.instruction.Action.the-variants.{Inherent, Un
 use Rattle.opcodes.specs.declared.instruction.Address.the-variants.{Fixed}
 use Rattle.opcodes.specs.declared.instruction.Operand.the-variants as Operand
 use Rattle.opcodes.specs.declared.form.Form.the-variants.{Computes, Branches, Jumps}
-use Rattle.stepper.specs.Advance.{Waiting}
+use Rattle.instructions.specs.inner.Sited.{Waiting}
 
 abbrev waitsBare : Action → Bool
 waitsBare a = waits (formOf a Operand.Inherent 0)
