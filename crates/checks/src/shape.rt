@@ -4,7 +4,7 @@ ghost use mathlib.Core.List.{[], _∷_};
 ghost use Rattle.registers.specs.Word.{wrappingAdd};
 ghost use Rattle.rules.specs.Shape.{ordinary, goesOn, writes, jumps, calls, shapeBy};
 ghost use Rattle.checks.specs.Said.{writtenSaid, shapeSaid};
-use opcodes::form::Form;
+use instructions::form::Form;
 use opcodes::instruction::Address;
 use registers::Cycles;
 use registers::StackBytes;

@@ -9,7 +9,7 @@ use Rattle.registers.specs.declared.Registers.{Registers}
 use Rattle.memory.specs.Memory.{wordAt}
 use Rattle.opcodes.specs.Decode.{operandOf}
 use Rattle.opcodes.specs.inner.Fits.{memoryMode, byteMode, wordMode, callMode, relativeMode, maskMode, maskBranchMode, fits}
-use Rattle.opcodes.specs.Form.{addressIn, targetIn}
+use Rattle.instructions.specs.Form.{addressIn, targetIn}
 use Rattle.opcodes.specs.declared.instruction.Action.{Action}
 use Rattle.opcodes.specs.declared.instruction.Action.the-variants.{Inherent, Unary, TstAccumulator, Binary, TstMemory, LoadWord, Addd, Subd, CompareWord, StoreByte, StoreWord, Modify, Bset, Bclr, Brset, Brclr, Branch, Jmp, Call, Rts, PushByte, PushWord, PullByte, PullWord, Des, Ins, SetStack, Swi, Rti, Wai, Stop, Test}
 use Rattle.opcodes.specs.declared.instruction.Mode.{Mode}

@@ -9,12 +9,13 @@ use lib.Dec.{eqb, leb, ltb, leb·zero, leb·suc-zero, leb·suc-suc}
 use lib.ListN.{getD, replicate, List·getD-map}
 use borrow.Author.Tests.{ltb-false}
 use Rattle.opcodes.specs.inner.Numbers.{allActions, actionOf}
-use Rattle.opcodes.specs.Form.{formOf, waits, targetIn}
+use Rattle.instructions.specs.Form.{targetIn, waits}
+use Rattle.instructions.specs.Entry.{formOf}
 use Rattle.opcodes.specs.declared.instruction.Action.{Action}
 use Rattle.opcodes.specs.declared.instruction.Action.the-variants.{Inherent, Unary, TstAccumulator, Binary, TstMemory, LoadWord, Addd, Subd, CompareWord, StoreByte, StoreWord, Modify, Bset, Bclr, Brset, Brclr, Branch, Jmp, Call, Rts, PushByte, PushWord, PullByte, PullWord, Des, Ins, SetStack, Swi, Rti, Wai, Stop, Test}
 use Rattle.opcodes.specs.declared.instruction.Address.the-variants.{Fixed}
 use Rattle.opcodes.specs.declared.instruction.Operand.the-variants as Operand
-use Rattle.opcodes.specs.declared.form.Form.the-variants.{Computes, Branches, Jumps}
+use Rattle.instructions.specs.declared.form.Form.the-variants.{Computes, Branches, Jumps}
 use Rattle.instructions.specs.inner.Sited.{Waiting}
 
 abbrev waitsBare : Action → Bool

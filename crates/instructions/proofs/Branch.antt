@@ -13,11 +13,12 @@ use Rattle.registers.specs.Registers.{dataOf, withPc}
 use Rattle.registers.specs.declared.Registers.{Registers}
 use Rattle.opcodes.proofs.Truth.{truth}
 use Rattle.opcodes.specs.Conditions.{index, truthWords, holdsOf}
-use Rattle.opcodes.specs.Form.{targetIn, branchForm, formOf}
+use Rattle.instructions.specs.Form.{targetIn, branchForm}
+use Rattle.instructions.specs.Entry.{formOf, outcomeOf}
 use Rattle.opcodes.specs.declared.instruction.Action.the-variants.{Branch}
 use Rattle.opcodes.specs.declared.instruction.Operand.{Operand}
 use Rattle.instructions.specs.Operand.{addressOf}
-use Rattle.instructions.specs.Outcome.{branches, outcomeOf}
+use Rattle.instructions.specs.Outcome.{branches}
 use Rattle.instructions.specs.Effect.{Effect, effect, effectBy, effectOf}
 use Rattle.instructions.specs.inner.Sited.{GoesTo, Executed}
 

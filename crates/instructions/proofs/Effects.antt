@@ -4,11 +4,10 @@ use mathlib.Core.List.{List}
 use Prim.Native.Nat.{ℕ}
 use Rattle.registers.specs.declared.Registers.{Registers}
 use Rattle.memory.specs.Memory.{withWord, withPushed}
-use Rattle.opcodes.specs.Form.{formOf}
+use Rattle.instructions.specs.Entry.{formOf, readsOf, outcomeOf}
 use Rattle.opcodes.specs.declared.instruction.Action.{Action}
 use Rattle.opcodes.specs.declared.instruction.Operand.{Operand}
-use Rattle.instructions.specs.Operand.{operandAddress, readsOf, inputOf}
-use Rattle.instructions.specs.Outcome.{outcomeOf}
+use Rattle.instructions.specs.Operand.{operandAddress, inputOf}
 use Rattle.instructions.specs.Effect.{Effect, effectBy, effectOf}
 
 unfoldable pub opened : Action → Operand → Registers → List ℕ → Effect

@@ -8,13 +8,13 @@ use Rattle.registers.specs.Word.{wrappingAdd, wrappingSub}
 use Rattle.registers.specs.Registers.{withData, withPc, withSp, withPcSp}
 use Rattle.registers.specs.declared.Registers.{Registers}
 use Rattle.memory.specs.Memory.{wordAt, Store, store, wordStores, pushStores}
-use Rattle.opcodes.specs.Form.{formOf}
+use Rattle.instructions.specs.Entry.{formOf, readsOf, outcomeOf}
 use Rattle.opcodes.specs.declared.instruction.Action.{Action}
 use Rattle.opcodes.specs.declared.instruction.Operand.{Operand}
-use Rattle.opcodes.specs.declared.form.Form.{Form}
-use Rattle.opcodes.specs.declared.form.Form.the-variants.{Computes, StoresByte, StoresWord, PushesByte, PushesWord, PullsByte, PullsWord, Reserves, Releases, Branches, Jumps, Calls, Returns, MovesSp, Interrupts, Resumes, Waits}
-use Rattle.instructions.specs.Operand.{addressOf, readsOf, inputOf, maskOf}
-use Rattle.instructions.specs.Outcome.{Outcome, outcomeOf}
+use Rattle.instructions.specs.declared.form.Form.{Form}
+use Rattle.instructions.specs.declared.form.Form.the-variants.{Computes, StoresByte, StoresWord, PushesByte, PushesWord, PullsByte, PullsWord, Reserves, Releases, Branches, Jumps, Calls, Returns, MovesSp, Interrupts, Resumes, Waits}
+use Rattle.instructions.specs.Operand.{addressOf, inputOf, maskOf}
+use Rattle.instructions.specs.Outcome.{Outcome}
 use Rattle.instructions.specs.Interrupt.{stackedOf, interruptedOf, resumedOf}
 
 pub record Effect : Type 0 where

@@ -1,6 +1,9 @@
+pub mod Form
 pub mod Operand
 pub mod Inherent
+pub mod Named
 pub mod Outcome
+pub mod Entry
 pub mod Interrupt
 pub mod Effect
 pub mod inner

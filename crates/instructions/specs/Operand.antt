@@ -5,9 +5,7 @@ use mathlib.Core.List.{List}
 use Rattle.registers.specs.Word.{wrappingAdd}
 use Rattle.registers.specs.declared.Registers.{Registers}
 use Rattle.memory.specs.Memory.{byteAt, wordAt}
-use Rattle.opcodes.specs.Form.{addressIn}
-use Rattle.opcodes.specs.declared.instruction.Action.{Action}
-use Rattle.opcodes.specs.declared.instruction.Action.the-variants.{Inherent, Unary, TstAccumulator, Binary, TstMemory, LoadWord, Addd, Subd, CompareWord, StoreByte, StoreWord, Modify, Bset, Bclr, Brset, Brclr, Branch, Jmp, Call, Rts, PushByte, PushWord, PullByte, PullWord, Des, Ins, SetStack, Swi, Rti, Wai, Stop, Test}
+use Rattle.instructions.specs.Form.{addressIn}
 use Rattle.opcodes.specs.declared.instruction.Address.{Address}
 use Rattle.opcodes.specs.declared.instruction.Address.the-variants.{Fixed, IndexedX, IndexedY}
 use Rattle.opcodes.specs.declared.instruction.Operand.{Operand}
@@ -55,41 +53,6 @@ maskOf (Operand.MaskBranch a k d) = k
 
 pub data Reads : Type 0 where
   nothing operandByte operandWord pulledByte pulledWord : Reads
-
--- CLR reads its byte before it writes, as every read-modify-write does
-unfoldable pub readsOf : Action → Reads
-readsOf (Inherent i) = nothing
-readsOf (Unary u c) = nothing
-readsOf (TstAccumulator c) = nothing
-readsOf (Binary b c) = operandByte
-readsOf TstMemory = operandByte
-readsOf (LoadWord w) = operandWord
-readsOf Addd = operandWord
-readsOf Subd = operandWord
-readsOf (CompareWord w) = operandWord
-readsOf (StoreByte c) = nothing
-readsOf (StoreWord w) = nothing
-readsOf (Modify u) = operandByte
-readsOf Bset = operandByte
-readsOf Bclr = operandByte
-readsOf Brset = operandByte
-readsOf Brclr = operandByte
-readsOf (Branch k) = nothing
-readsOf Jmp = nothing
-readsOf Call = nothing
-readsOf Rts = nothing
-readsOf (PushByte c) = nothing
-readsOf (PushWord i) = nothing
-readsOf (PullByte c) = pulledByte
-readsOf (PullWord i) = pulledWord
-readsOf Des = nothing
-readsOf Ins = nothing
-readsOf (SetStack i) = nothing
-readsOf Swi = nothing
-readsOf Rti = nothing
-readsOf Wai = nothing
-readsOf Stop = nothing
-readsOf Test = nothing
 
 -- what is read: 0 where nothing is
 unfoldable pub inputOf : Reads → Operand → Registers → List ℕ → ℕ

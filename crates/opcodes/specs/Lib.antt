@@ -2,5 +2,4 @@ pub mod Rows
 pub mod Tables
 pub mod Conditions
 pub mod Decode
-pub mod Form
 pub mod inner

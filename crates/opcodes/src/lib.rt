@@ -1,6 +1,5 @@
-// An inner crate: the decoded instruction, the opcode tables, the sixteen tests, the places of the tables and the form of an instruction.
+// An inner crate: the decoded instruction, the opcode tables, the sixteen tests, the places of the tables.
 pub mod instruction; // an action with an operand
-pub mod form; // what an instruction does to PC, SP and memory
 pub mod table; // length, cycles, action and mode of each place
 pub mod condition; // the sixteen tests
 pub mod lookup; // from the first two bytes to a place

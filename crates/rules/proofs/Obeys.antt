@@ -13,15 +13,16 @@ use Rattle.registers.specs.Registers.{withPc}
 use Rattle.registers.specs.declared.Registers.{Registers}
 use Rattle.memory.specs.Memory.{Store, store, wordAt}
 use Rattle.opcodes.specs.Decode.{placeIn, decodeOf}
-use Rattle.opcodes.specs.Form.{formOf, waits}
+use Rattle.instructions.specs.Form.{waits}
+use Rattle.instructions.specs.Entry.{formOf, readsOf, outcomeOf}
 use Rattle.opcodes.specs.Tables.{lengthAt, cyclesAt}
 use Rattle.opcodes.specs.declared.instruction.Address.the-variants.{Fixed, IndexedX, IndexedY}
 use Rattle.opcodes.specs.declared.instruction.Decoded.{Decoded}
 use Rattle.opcodes.specs.declared.instruction.Decoded.the-variants.{Instruction, Nothing}
-use Rattle.opcodes.specs.declared.form.Form.{Form}
-use Rattle.opcodes.specs.declared.form.Form.the-variants.{Computes, StoresByte, StoresWord, PushesByte, PushesWord, PullsByte, PullsWord, Reserves, Releases, Branches, Jumps, Calls, Returns, MovesSp, Interrupts, Resumes, Waits}
-use Rattle.instructions.specs.Operand.{addressOf, readsOf, inputOf, maskOf}
-use Rattle.instructions.specs.Outcome.{Outcome, outcomeOf}
+use Rattle.instructions.specs.declared.form.Form.{Form}
+use Rattle.instructions.specs.declared.form.Form.the-variants.{Computes, StoresByte, StoresWord, PushesByte, PushesWord, PullsByte, PullsWord, Reserves, Releases, Branches, Jumps, Calls, Returns, MovesSp, Interrupts, Resumes, Waits}
+use Rattle.instructions.specs.Operand.{addressOf, inputOf, maskOf}
+use Rattle.instructions.specs.Outcome.{Outcome}
 use Rattle.instructions.specs.Effect.{effectBy, effectWith, effectOf}
 use Rattle.stepper.specs.Step.{Did, did, fetched, executed, carriedOut, didIf, didOf, after, stepOf}
 use Rattle.stepper.proofs.Costs.{step-cost}

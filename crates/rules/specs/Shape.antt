@@ -5,13 +5,13 @@ use mathlib.Core.List.{List, [], _∷_}
 use Rattle.registers.specs.Word.{wrappingAdd}
 use Rattle.opcodes.specs.Tables.{lengthAt, cyclesAt}
 use Rattle.opcodes.specs.Decode.{Bytes, placeIn, decodeOf}
-use Rattle.opcodes.specs.Form.{formOf}
+use Rattle.instructions.specs.Entry.{formOf}
 use Rattle.opcodes.specs.declared.instruction.Address.{Address}
 use Rattle.opcodes.specs.declared.instruction.Address.the-variants.{Fixed, IndexedX, IndexedY}
 use Rattle.opcodes.specs.declared.instruction.Decoded.{Decoded}
 use Rattle.opcodes.specs.declared.instruction.Decoded.the-variants.{Instruction, Nothing}
-use Rattle.opcodes.specs.declared.form.Form.{Form}
-use Rattle.opcodes.specs.declared.form.Form.the-variants.{Computes, StoresByte, StoresWord, PushesByte, PushesWord, PullsByte, PullsWord, Reserves, Releases, Branches, Jumps, Calls, Returns, MovesSp, Interrupts, Resumes, Waits}
+use Rattle.instructions.specs.declared.form.Form.{Form}
+use Rattle.instructions.specs.declared.form.Form.the-variants.{Computes, StoresByte, StoresWord, PushesByte, PushesWord, PullsByte, PullsWord, Reserves, Releases, Branches, Jumps, Calls, Returns, MovesSp, Interrupts, Resumes, Waits}
 
 pub data Shape : Type 0 where
   -- the addresses that may come next; bytes pushed; bytes pulled; the addresses that a direct or extended write stores to; cycles

@@ -8,12 +8,12 @@ use Rattle.registers.specs.Word.{wrappingAdd}
 use Rattle.registers.specs.declared.Registers.{Registers}
 use Rattle.memory.specs.Memory.{Store, applied}
 use Rattle.opcodes.specs.Decode.{placeIn, decodeOf}
-use Rattle.opcodes.specs.Form.{formOf}
+use Rattle.instructions.specs.Entry.{formOf}
 use Rattle.opcodes.specs.Tables.{lengthAt}
 use Rattle.opcodes.specs.declared.instruction.Decoded.{Decoded}
 use Rattle.opcodes.specs.declared.instruction.Decoded.the-variants.{Instruction, Nothing}
-use Rattle.opcodes.specs.declared.form.Form.{Form}
-use Rattle.opcodes.specs.declared.form.Form.the-variants.{Computes, StoresByte, StoresWord, PushesByte, PushesWord, PullsByte, PullsWord, Reserves, Releases, Branches, Jumps, Calls, Returns, MovesSp, Interrupts, Resumes, Waits}
+use Rattle.instructions.specs.declared.form.Form.{Form}
+use Rattle.instructions.specs.declared.form.Form.the-variants.{Computes, StoresByte, StoresWord, PushesByte, PushesWord, PullsByte, PullsWord, Reserves, Releases, Branches, Jumps, Calls, Returns, MovesSp, Interrupts, Resumes, Waits}
 use Rattle.stepper.specs.Step.{did, fetched, didOf}
 
 -- JSR and BSR call, RTS returns

@@ -14,7 +14,8 @@ use Rattle.opcodes.proofs.Rule.{ruled-at-all}
 use Rattle.opcodes.proofs.Says.{none-there}
 use Rattle.opcodes.specs.Tables.{lengthAt, cyclesAt}
 use Rattle.opcodes.specs.Decode.{Bytes, placeIn, decodeAt}
-use Rattle.opcodes.specs.Form.{formOf, waits}
+use Rattle.instructions.specs.Form.{waits}
+use Rattle.instructions.specs.Entry.{formOf}
 use Rattle.opcodes.specs.declared.instruction.Action.{Action}
 use Rattle.opcodes.specs.declared.instruction.Operand.{Operand}
 use Rattle.opcodes.specs.declared.instruction.Decoded.{Decoded}

@@ -21,7 +21,8 @@ use Rattle.opcodes.specs.inner.Numbers.{actionOf, modeOf}
 use Rattle.opcodes.specs.inner.Fits.{fits}
 use Rattle.opcodes.specs.Decode.{opcodePlace, instructionOf, placeIn, decodeAt}
 use Rattle.opcodes.specs.inner.Lookup.{foundOf}
-use Rattle.opcodes.specs.Form.{formOf, waits}
+use Rattle.instructions.specs.Form.{waits}
+use Rattle.instructions.specs.Entry.{formOf}
 use Rattle.opcodes.specs.declared.lookup.Found.{Found}
 use Rattle.opcodes.specs.declared.lookup.Found.the-variants as Found
 use Rattle.opcodes.specs.declared.instruction.Operand.{Operand}

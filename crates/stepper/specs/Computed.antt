@@ -9,14 +9,15 @@ use Rattle.opcodes.specs.Rows.{rows}
 use Rattle.opcodes.specs.Tables.{costs, actions, modes, costAt, actionAt, modeAt}
 use Rattle.opcodes.specs.Conditions.{truthWords, holdsOf}
 use Rattle.opcodes.specs.Decode.{pageOf, opcodePlace, opcodeSize, operandOf, instructionOf, decodeAt}
-use Rattle.opcodes.specs.Form.{addressIn, targetIn, formOf}
+use Rattle.instructions.specs.Form.{addressIn, targetIn}
+use Rattle.instructions.specs.Entry.{formOf, readsOf, outcomeOf}
 use Rattle.arithmetic.specs.Byte.{add8Of, sub8Of}
 use Rattle.arithmetic.specs.Word.{add16Of, sub16Of, mulOf}
 use Rattle.arithmetic.specs.Decimal.{daaOf}
 use Rattle.arithmetic.specs.Divide.{idivOf, fdivOf}
-use Rattle.instructions.specs.Operand.{addressOf, operandAddress, byteOperand, wordOperand, maskOf, readsOf, inputOf}
+use Rattle.instructions.specs.Operand.{addressOf, operandAddress, byteOperand, wordOperand, maskOf, inputOf}
 use Rattle.instructions.specs.Inherent.{replaced, inherentOf}
-use Rattle.instructions.specs.Outcome.{accumulatorOf, withAccumulator, indexOf, withIndex, wordRegisterOf, toWord, outcomeOf}
+use Rattle.instructions.specs.Named.{accumulatorOf, withAccumulator, indexOf, withIndex, wordRegisterOf, toWord}
 use Rattle.instructions.specs.Interrupt.{stackedOf, interruptedOf, resumedOf}
 use Rattle.instructions.specs.Effect.{effectBy, effectOf}
 use Rattle.stepper.specs.Step.{carriedOut, didOf, stepOf, After}

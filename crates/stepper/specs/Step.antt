@@ -11,7 +11,8 @@ use Rattle.registers.specs.declared.Registers.{Registers}
 use Rattle.memory.specs.Memory.{byteAt, Store, applied}
 use Rattle.opcodes.specs.Tables.{lengthAt, cyclesAt}
 use Rattle.opcodes.specs.Decode.{Bytes, placeIn, decodeAt}
-use Rattle.opcodes.specs.Form.{formOf, waits}
+use Rattle.instructions.specs.Form.{waits}
+use Rattle.instructions.specs.Entry.{formOf}
 use Rattle.opcodes.specs.declared.instruction.Decoded.{Decoded}
 use Rattle.opcodes.specs.declared.instruction.Decoded.the-variants.{Instruction, Nothing}
 use Rattle.instructions.specs.Effect.{Effect, effectOf}

@@ -8,7 +8,8 @@ use Rattle.registers.specs.Word.{wrappingAdd, targetOf}
 use Rattle.registers.specs.declared.Registers.{Registers}
 use Rattle.memory.specs.Memory.{byteAt, wordAt, applied}
 use Rattle.opcodes.specs.Decode.{operandOf}
-use Rattle.opcodes.specs.Form.{targetIn, formOf, waits}
+use Rattle.instructions.specs.Form.{targetIn, waits}
+use Rattle.instructions.specs.Entry.{formOf}
 use Rattle.opcodes.specs.declared.instruction.Action.{Action}
 use Rattle.opcodes.specs.declared.instruction.Action.the-variants.{Inherent, Unary, TstAccumulator, Binary, TstMemory, LoadWord, Addd, Subd, CompareWord, StoreByte, StoreWord, Modify, Bset, Bclr, Brset, Brclr, Branch, Jmp, Call, Rts, PushByte, PushWord, PullByte, PullWord, Des, Ins, SetStack, Swi, Rti, Wai, Stop, Test}
 use Rattle.opcodes.specs.declared.instruction.Mode.{Mode}

@@ -1,7 +1,7 @@
 -- `accumulator` meets its contract: a case for each register.
 -- Assumes nothing.
 use borrow.Author.Needs.{needs}
-use Rattle.instructions.specs.Outcome.{accumulatorOf}
+use Rattle.instructions.specs.Named.{accumulatorOf}
 use Rattle.instructions.proofs.named.accumulator.Statement.{statement}
 use Rattle.instructions.proofs.named.accumulator.Tie as tie
 

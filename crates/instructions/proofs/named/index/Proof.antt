@@ -1,7 +1,7 @@
 -- `index` meets its contract: a case for each register.
 -- Assumes nothing.
 use borrow.Author.Needs.{needs}
-use Rattle.instructions.specs.Outcome.{indexOf}
+use Rattle.instructions.specs.Named.{indexOf}
 use Rattle.instructions.proofs.named.index.Statement.{statement}
 use Rattle.instructions.proofs.named.index.Tie as tie
 

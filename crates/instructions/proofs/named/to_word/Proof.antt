@@ -1,7 +1,7 @@
 -- `to_word` meets its contract: a case for each register.
 -- Assumes nothing.
 use borrow.Author.Needs.{needs}
-use Rattle.instructions.specs.Outcome.{toWord}
+use Rattle.instructions.specs.Named.{toWord}
 use Rattle.instructions.proofs.named.to_word.Statement.{statement}
 use Rattle.instructions.proofs.named.to_word.Tie as tie
 

@@ -1,7 +1,7 @@
 -- `with_accumulator` meets its contract: a case for each register.
 -- Assumes nothing.
 use borrow.Author.Needs.{needs}
-use Rattle.instructions.specs.Outcome.{withAccumulator}
+use Rattle.instructions.specs.Named.{withAccumulator}
 use Rattle.instructions.proofs.named.with_accumulator.Statement.{statement}
 use Rattle.instructions.proofs.named.with_accumulator.Tie as tie
 

@@ -1,7 +1,7 @@
 -- `with_index` meets its contract: a case for each register.
 -- Assumes nothing.
 use borrow.Author.Needs.{needs}
-use Rattle.instructions.specs.Outcome.{withIndex}
+use Rattle.instructions.specs.Named.{withIndex}
 use Rattle.instructions.proofs.named.with_index.Statement.{statement}
 use Rattle.instructions.proofs.named.with_index.Tie as tie
 

@@ -1,7 +1,7 @@
 -- `word_register` meets its contract: a case for each register.
 -- Assumes nothing.
 use borrow.Author.Needs.{needs}
-use Rattle.instructions.specs.Outcome.{wordRegisterOf}
+use Rattle.instructions.specs.Named.{wordRegisterOf}
 use Rattle.instructions.proofs.named.word_register.Statement.{statement}
 use Rattle.instructions.proofs.named.word_register.Tie as tie
 

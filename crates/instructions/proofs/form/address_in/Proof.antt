@@ -1,9 +1,9 @@
 -- `form::address_in` meets its contract: operand by operand, the address is the one that the definition says.
 -- Assumes nothing.
 use borrow.Author.Needs.{needs}
-use Rattle.opcodes.specs.Form.{addressIn}
-use Rattle.opcodes.proofs.form.address_in.Statement.{statement}
-use Rattle.opcodes.proofs.form.address_in.Tie as tie
+use Rattle.instructions.specs.Form.{addressIn}
+use Rattle.instructions.proofs.form.address_in.Statement.{statement}
+use Rattle.instructions.proofs.form.address_in.Tie as tie
 
 pub address-in-spec : {M : Type 1} → statement M
 unfolding addressIn

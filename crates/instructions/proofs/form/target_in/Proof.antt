@@ -1,9 +1,9 @@
 -- `form::target_in` meets its contract: operand by operand, the target is the one that the definition says.
 -- Assumes nothing.
 use borrow.Author.Needs.{needs}
-use Rattle.opcodes.specs.Form.{targetIn}
-use Rattle.opcodes.proofs.form.target_in.Statement.{statement}
-use Rattle.opcodes.proofs.form.target_in.Tie as tie
+use Rattle.instructions.specs.Form.{targetIn}
+use Rattle.instructions.proofs.form.target_in.Statement.{statement}
+use Rattle.instructions.proofs.form.target_in.Tie as tie
 
 pub target-in-spec : {M : Type 1} → statement M
 unfolding targetIn

@@ -1,9 +1,9 @@
 -- `form::form_of` meets its contract: action by action, the form is the one that the definition says.
 -- Assumes nothing.
 use borrow.Author.Needs.{needs}
-use Rattle.opcodes.specs.Form.{formOf}
-use Rattle.opcodes.proofs.form.form_of.Statement.{statement}
-use Rattle.opcodes.proofs.form.form_of.Tie as tie
+use Rattle.instructions.specs.Entry.{formOf}
+use Rattle.instructions.proofs.form.form_of.Statement.{statement}
+use Rattle.instructions.proofs.form.form_of.Tie as tie
 
 pub form-of-spec : {M : Type 1} → statement M
 unfolding formOf

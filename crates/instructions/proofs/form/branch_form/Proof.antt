@@ -1,8 +1,8 @@
 -- `form::branch_form` meets its contract: the code tests as the definition does.
 -- Assumes nothing.
 use borrow.Author.Tests.{eq-eqb, ne-eqb}
-use Rattle.opcodes.proofs.form.branch_form.Statement.{statement}
-use Rattle.opcodes.proofs.form.branch_form.Tie as tie
+use Rattle.instructions.proofs.form.branch_form.Statement.{statement}
+use Rattle.instructions.proofs.form.branch_form.Tie as tie
 
 pub branch-form-spec : {M : Type 1} → statement M
 branch-form-spec =

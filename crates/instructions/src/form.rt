@@ -1,10 +1,11 @@
 // The form of an instruction: all that it does to PC, SP and memory, apart from the values; and the form of a decoded one.
 ghost use mathlib.Core.Path.{_≡_};
-ghost use Rattle.opcodes.specs.Form.{addressIn, targetIn, branchForm, loadForm, formOf};
-use crate::instruction::Action;
-use crate::instruction::Address;
-use crate::instruction::Operand;
-use crate::instruction::Word;
+ghost use Rattle.instructions.specs.Form.{addressIn, targetIn, branchForm, loadForm};
+ghost use Rattle.instructions.specs.Entry.{formOf};
+use opcodes::instruction::Action;
+use opcodes::instruction::Address;
+use opcodes::instruction::Operand;
+use opcodes::instruction::Word;
 use registers::word::target;
 
 pub enum Form {
