@@ -1,3 +1,3 @@
 pub mod Sited
 pub mod Arms
-pub mod Waits
+pub mod Waiting

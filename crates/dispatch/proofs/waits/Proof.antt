@@ -1,6 +1,6 @@
 -- `waits` meets its contract: WAI, STOP and TEST have the last numbers.
 -- Assumes nothing.
-use Rattle.dispatch.proofs.Waits.{waits-from}
+use Rattle.dispatch.proofs.Waiting.{waits-from}
 use Rattle.dispatch.proofs.waits.Statement.{statement}
 use Rattle.dispatch.proofs.waits.Tie as tie
 

@@ -9,7 +9,7 @@ use Prim.Native.Nat.{_<_, _%_}
 use Rattle.opcodes.proofs.Says.{in-tables}
 use Rattle.stepper.specs.Step.{stepOf}
 use Rattle.stepper.specs.Advance.{stepped}
-use Rattle.dispatch.proofs.Waits.{executable}
+use Rattle.dispatch.proofs.Waiting.{executable}
 use Rattle.stepper.proofs.Next.{Here, nowhere, length-word, waiting, done-here, executes, fit}
 use Rattle.stepper.proofs.Turn.{told}
 use Rattle.stepper.proofs.Loop.{Reached, begun, stopped, uncovered, cost, homed, again}
