@@ -3,7 +3,7 @@
 use mathlib.Core.Path.{refl}
 use Rattle.stepper.specs.Step.{stepOf}
 use Rattle.stepper.specs.Run.{runOf}
-use Rattle.stepper.specs.Computed.{stepNow, runNow}
+use Rattle.stepper.specs.inner.Computed.{stepNow, runNow}
 use Rattle.commands.specs.Admit.{admitOf}
 use Rattle.commands.specs.Bytes.{widthOf, commandOf, decodeOf}
 use Rattle.commands.specs.Cause.{rangesHold, causeOf}

@@ -1,12 +1,12 @@
 -- Two different kinds have different readings: from what `kindSaid` says of a kind the kind is found again.
 -- Assumes nothing.
 use mathlib.Core.Path.{_≡_, refl, sym, ap, _∙_}
-use Rattle.rules.specs.Trace.{Kind, calls, returns, plain}
+use Rattle.stepper.specs.Trace.{Flow, calls, returns, plain}
 use Rattle.measure.specs.declared.kind.Kind.{Kind as Said}
 use Rattle.measure.specs.declared.kind.Kind.the-variants as Said
 use Rattle.measure.specs.Look.{kindSaid}
 
-abbrev kindFrom : Kind → Said
+abbrev kindFrom : Flow → Said
 kindFrom calls = Said.Calls
 kindFrom returns = Said.Returns
 kindFrom plain = Said.Plain

@@ -9,12 +9,12 @@ use Rattle.registers.specs.declared.Registers.{Registers}
 use Rattle.stepper.specs.Answer.{Answer, done, refused}
 use Rattle.stepper.specs.Step.{stepOf}
 use Rattle.commands.specs.declared.command.Claim.{Claim}
-use Rattle.rules.specs.Trace.{Kind, calls, returns, plain, kindOf}
+use Rattle.stepper.specs.Trace.{Flow, calls, returns, plain, flowOf}
 use Rattle.measure.specs.declared.kind.Kind.{Kind as Said}
 use Rattle.measure.specs.declared.kind.Kind.the-variants as Said
 use Rattle.measure.specs.declared.look.Look.{Look}
 
-abbrev pub kindSaid : Said → Kind
+abbrev pub kindSaid : Said → Flow
 kindSaid Said.Calls = calls
 kindSaid Said.Returns = returns
 kindSaid Said.Plain = plain
@@ -30,23 +30,23 @@ abbrev pub lowerOf : ℕ → ℕ → ℕ
 lowerOf a b = cond (ltb a b) a b
 
 -- the calls that have not returned after an instruction of a kind
-abbrev pub pendingAfter : Kind → ℕ → ℕ
+abbrev pub pendingAfter : Flow → ℕ → ℕ
 pendingAfter calls n = n + 1
 pendingAfter returns n = n - 1
 pendingAfter plain n = n
 
 -- a return while no call is pending is the routine's own
-abbrev pub ends : Kind → ℕ → Bool
+abbrev pub ends : Flow → ℕ → Bool
 ends calls n = false
 ends returns n = eqb n 0
 ends plain n = false
 
 -- an instruction of this kind led to the registers q in k cycles
-abbrev pub onOf : Kind → Look → Registers → ℕ → Look
+abbrev pub onOf : Flow → Look → Registers → ℕ → Look
 onOf d l q k = record { regs = q; lowest = lowerOf (l .lowest) (q .sp); pending = pendingAfter d (l .pending); left = l .left - k; over = ends d (l .pending) }
 
 -- one that the budget does not cover, or that is refused, ends the look
-abbrev pub afterOf : Kind → Look → Answer → Look
+abbrev pub afterOf : Flow → Look → Answer → Look
 afterOf d l (done q k) = cond (ltb (l .left) (k .0)) (overOf l) (onOf d l q (k .0))
 afterOf d l (refused n p) = overOf l
 
@@ -58,7 +58,7 @@ abbrev pub turned : Look → List ℕ → Turned
 turned l m = record { look = l; memory = m }
 
 unfoldable pub turnOf : Look → List ℕ → Turned
-turnOf l m = let s = stepOf (l .regs) m in turned (afterOf (kindOf m (l .regs .pc)) l (s .answer)) (s .memory)
+turnOf l m = let s = stepOf (l .regs) m in turned (afterOf (flowOf m (l .regs .pc)) l (s .answer)) (s .memory)
 
 -- at most n instructions
 unfoldable pub lookFrom : ℕ → Look → List ℕ → Look

@@ -4,7 +4,7 @@ ghost use lib.ListN.{length};
 ghost use Prim.Native.Nat.{_<_};
 ghost use Rattle.opcodes.specs.Tables.{costAt};
 ghost use Rattle.opcodes.specs.Decode.{instructionOf};
-ghost use Rattle.rules.specs.Trace.{kindBy, kindIn, kindOf};
+ghost use Rattle.stepper.specs.Trace.{flowBy, flowIn, flowOf};
 ghost use Rattle.measure.specs.Look.{kindSaid};
 use instructions::form::Form;
 use instructions::form::form_of;
@@ -27,7 +27,7 @@ pub enum Kind {
 }
 
 fn kind_by(f: Form) -> Kind
-    ensures { λ r. ⌜ kindSaid r ≡ kindBy f ⌝ }
+    ensures { λ r. ⌜ kindSaid r ≡ flowBy f ⌝ }
 {
     match f {
         Form::Computes => Kind::Plain,
@@ -54,7 +54,7 @@ fn kind_by(f: Form) -> Kind
 fn kind_found(place: usize, e: u32, u: u8, v: u8, w: u8, pc: u16) -> Kind
     requires { ⌜ place < 1024 ⌝ }
     requires { ⌜ e ≡ costAt place ⌝ }
-    ensures { λ r. ⌜ kindSaid r ≡ kindIn place (instructionOf place u v w) pc ⌝ }
+    ensures { λ r. ⌜ kindSaid r ≡ flowIn place (instructionOf place u v w) pc ⌝ }
 {
     let ta = actions();
     let tm = modes();
@@ -68,7 +68,7 @@ fn kind_found(place: usize, e: u32, u: u8, v: u8, w: u8, pc: u16) -> Kind
 // It is decoded as the step decodes it.
 pub fn kind_at(mem: &[u8], pc: u16) -> Kind
     requires { ⌜ length (now mem) ≡ 65536 ⌝ }
-    ensures { λ r. ⌜ kindSaid r ≡ kindOf (now (mem .entry)) pc ⌝ }
+    ensures { λ r. ⌜ kindSaid r ≡ flowOf (now (mem .entry)) pc ⌝ }
 {
     let tc = costs();
     match found_of(byte_at(mem, pc), byte_at(mem, wrapping_add(pc, 1)), &tc) {

@@ -15,7 +15,7 @@ use Rattle.registers.specs.Registers.{dataOf}
 use Rattle.commands.specs.Number.{AllBytes}
 use Rattle.stepper.specs.Answer.{home, refused}
 use Rattle.stepper.specs.Run.{AfterRun, runOf}
-use Rattle.rules.specs.Trace.{total}
+use Rattle.stepper.specs.Trace.{total}
 use Rattle.rules.specs.Claim.{Stops, ranHome}
 use Rattle.verdict.specs.declared.Started.{Started}
 use Rattle.verdict.specs.declared.Started.the-variants.{At, Refused}
@@ -42,14 +42,14 @@ module _ (ticket image rs m : List ℕ) (eleven : length rs ≡ 11) (C : Certain
   whole : eqb (length m) 65536 ≡ true
   whole =
       let H = C .comes-home in
-      whole-by _ m _ _ _ _ (H .covered (total (H .deeds)) (omega arith)) (eqb (length m) 65536) refl
+      whole-by _ m _ _ _ _ (H .covered (total (H .events)) (omega arith)) (eqb (length m) 65536) refl
 
   covered : (b c p : ℕ) → let H = C .comes-home in
-      total (H .deeds) ≤ b → runBytesOf c p rs m b ≡ called 0 (total (H .deeds)) p (packed (H .last)) (H .memory)
+      total (H .events) ≤ b → runBytesOf c p rs m b ≡ called 0 (total (H .events)) p (packed (H .last)) (H .memory)
   unfolding runBytesOf
   covered b c p l = rw (eq-eqb _ _ eleven, whole, C .comes-home .covered b l)
 
-  stopped : (b c p : ℕ) (S : Stops (unpacked rs) m (C .comes-home .deeds) b)
+  stopped : (b c p : ℕ) (S : Stops (unpacked rs) m (C .comes-home .events) b)
       → runBytesOf c p rs m b ≡ called 100 (total (S .before)) p (packed (S .registers)) (S .memory)
   unfolding runBytesOf
   stopped b c p S = rw (eq-eqb _ _ eleven, whole, S .answer)

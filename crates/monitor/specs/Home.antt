@@ -5,7 +5,7 @@ use mathlib.Core.Path.{_≡_}
 use mathlib.Core.List.{List}
 use lib.ListN.{length}
 use Rattle.commands.specs.Number.{AllBytes}
-use Rattle.rules.specs.Trace.{total}
+use Rattle.stepper.specs.Trace.{total}
 use Rattle.rules.specs.Claim.{Stops}
 use Rattle.verdict.specs.Routine.{Certain}
 use Rattle.monitor.specs.Bytes.{packed, unpacked}
@@ -19,9 +19,9 @@ use Rattle.monitor.specs.Routine.{startBytesOf, filling, certifyBytesOf,
 pub record BytesComeHome (ticket image rs m : List ℕ) : Type 0 where
   pub certain : Certain ticket image (unpacked rs) m
   pub covered : (b c p : ℕ) → let H = certain .comes-home in
-      total (H .deeds) ≤ b → runBytesOf c p rs m b ≡ called 0 (total (H .deeds)) p (packed (H .last)) (H .memory)
-  pub uncovered : (b c p : ℕ) → b < total (certain .comes-home .deeds)
-      → (S : Stops (unpacked rs) m (certain .comes-home .deeds) b)
+      total (H .events) ≤ b → runBytesOf c p rs m b ≡ called 0 (total (H .events)) p (packed (H .last)) (H .memory)
+  pub uncovered : (b c p : ℕ) → b < total (certain .comes-home .events)
+      → (S : Stops (unpacked rs) m (certain .comes-home .events) b)
       × (runBytesOf c p rs m b ≡ called 100 (total (S .before)) p (packed (S .registers)) (S .memory))
 
 -- what is judged and started comes home

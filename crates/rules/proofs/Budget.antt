@@ -16,7 +16,7 @@ use Rattle.stepper.specs.Run.{AfterRun, runFrom, runOf}
 use Rattle.stepper.specs.Advance.{stepped}
 use Rattle.stepper.proofs.Turn as Turn
 use Rattle.stepper.proofs.Enough.{enough}
-use Rattle.rules.specs.Trace.{Deed, total, Along, stay, then, kindOf}
+use Rattle.stepper.specs.Trace.{flowOf, Event, total, Along, stay, then}
 use Rattle.rules.specs.Claim.{ranHome, ranSpent, Stops}
 use Rattle.rules.proofs.Obeys.{busy}
 
@@ -42,29 +42,29 @@ module _ (b s : ℕ) (r : Registers) (m : List ℕ) {q : Registers} {ws : List S
   stands l = Turn.away b b s r m away ∙ Turn.over b b s r m (ap (λ (x : After). x .answer) steps) l
 
 -- a trace that is covered is gone along
-follows : {r e : Registers} {m n : List ℕ} {ds : List Deed} (b s : ℕ) → Along r m ds e n → s + total ds ≤ b → runOn b s r m ≡ runOn b (s + total ds) e n
+follows : {r e : Registers} {m n : List ℕ} {ds : List Event} (b s : ℕ) → Along r m ds e n → s + total ds ≤ b → runOn b s r m ≡ runOn b (s + total ds) e n
 follows b s stay l = rw add-zero refl
 follows b s (then {r} {m} {k} away done rest) l = goes-on b s r m away done (omega arith) ∙ follows b (s + k) rest (omega arith) ∙ rw add-assoc refl
 
-from-start : {r e : Registers} {m n : List ℕ} {ds : List Deed} (b : ℕ) → length m ≡ 65536 → Along r m ds e n → total ds ≤ b → runOf r m b ≡ runOn b (total ds) e n
+from-start : {r e : Registers} {m n : List ℕ} {ds : List Event} (b : ℕ) → length m ≡ 65536 → Along r m ds e n → total ds ≤ b → runOf r m b ≡ runOn b (total ds) e n
 from-start {r} {m} {ds} b whole a l = starts r m b whole ∙ follows b 0 a (omega arith) ∙ rw zero-add refl
 
-pub run-home : {r e : Registers} {m n : List ℕ} {ds : List Deed} → length m ≡ 65536 → Along r m ds e n → e .pc ≡ 0 → (b : ℕ) → total ds ≤ b
+pub run-home : {r e : Registers} {m n : List ℕ} {ds : List Event} → length m ≡ 65536 → Along r m ds e n → e .pc ≡ 0 → (b : ℕ) → total ds ≤ b
     → runOf r m b ≡ ranHome e n (total ds)
 run-home {e} {n} {ds} whole a h b l = from-start b whole a l ∙ Turn.at-home b b (total ds) e n h
 
 -- two traces, one after the other
-joined : {r q e : Registers} {m n o : List ℕ} {ds ds′ : List Deed} → Along r m ds q n → Along q n ds′ e o → Along r m (ds ++ ds′) e o
+joined : {r q e : Registers} {m n o : List ℕ} {ds ds′ : List Event} → Along r m ds q n → Along q n ds′ e o → Along r m (ds ++ ds′) e o
 joined stay a′ = a′
 joined (then away done a) a′ = then away done (joined a a′)
 
-total-++ : (ds ds′ : List Deed) → total (ds ++ ds′) ≡ total ds + total ds′
+total-++ : (ds ds′ : List Event) → total (ds ++ ds′) ≡ total ds + total ds′
 total-++ [] ds′ = rw zero-add refl
 total-++ (d ∷ ds) ds′ = rw (total-++ ds ds′, add-assoc) refl
 
 module _ (r₀ : Registers) (m₀ : List ℕ) (whole : length m₀ ≡ 65536) (b : ℕ) where
   -- where the next instruction is not covered
-  stops-here : (before : List Deed) {r q : Registers} {m : List ℕ} {ws : List Store} (d : Deed) (ds : List Deed) → Along r₀ m₀ before r m
+  stops-here : (before : List Event) {r q : Registers} {m : List ℕ} {ws : List Store} (d : Event) (ds : List Event) → Along r₀ m₀ before r m
       → total before ≤ b → (r .pc ≡ 0 → ⊥) → didOf r m ≡ did q ws (d .cycles) → b < total before + d .cycles → Stops r₀ m₀ (before ++ (d ∷ ds)) b
   stops-here before {r} {m} d ds a l away done u = record {
     before = before;
@@ -80,15 +80,15 @@ module _ (r₀ : Registers) (m₀ : List ℕ) (whole : length m₀ ≡ 65536) (b
   }
 
   -- what is done is covered, and all that is left is not
-  stops : (before : List Deed) {r e : Registers} {m n : List ℕ} {ds : List Deed} → Along r₀ m₀ before r m → total before ≤ b → Along r m ds e n
+  stops : (before : List Event) {r e : Registers} {m n : List ℕ} {ds : List Event} → Along r₀ m₀ before r m → total before ≤ b → Along r m ds e n
       → b < total before + total ds → Stops r₀ m₀ (before ++ ds) b
   stops before a l stay u = absurd (omega arith)
   stops before a l (then {r} {q} {m} {ws} {k} {ds} away done rest) u =
-      let d : Deed = record { kind = kindOf m (r .pc); stores = ws; cycles = k; sp = q .sp } in
+      let d : Event = record { flow = flowOf m (r .pc); stores = ws; cycles = k; sp = q .sp } in
       let sum : total (before ++ (d ∷ [])) ≡ total before + k = rw (total-++ before (d ∷ []), add-zero) refl in
       ⊎-elim (λ c. let later = stops (before ++ (d ∷ [])) (joined a (then away done stay)) (omega (arith, sum, c)) rest (omega (arith, sum)) in
       rw (append-assoc before (d ∷ []) ds) at later)
       (λ c. stops-here before d ds a l away done c) (le-or-lt (total before + k) b)
 
-pub run-stops : {r e : Registers} {m n : List ℕ} {ds : List Deed} → length m ≡ 65536 → Along r m ds e n → (b : ℕ) → b < total ds → Stops r m ds b
+pub run-stops : {r e : Registers} {m n : List ℕ} {ds : List Event} → length m ≡ 65536 → Along r m ds e n → (b : ℕ) → b < total ds → Stops r m ds b
 run-stops {r} {m} whole a b u = stops r m whole b [] stay (omega arith) a (omega arith)

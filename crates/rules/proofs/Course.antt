@@ -9,34 +9,35 @@ use Rattle.registers.specs.declared.Registers.{Registers}
 use Rattle.memory.specs.Memory.{applied}
 use Rattle.ticket.specs.Fields.{Fields}
 use Rattle.rules.specs.Rules.{Accepted}
-use Rattle.rules.specs.Trace.{Deed, total, Along, stay, then, kindOf, inUseAfter}
+use Rattle.rules.specs.InUse.{inUseAfter}
+use Rattle.stepper.specs.Trace.{flowOf, Event, total, Along, stay, then}
 use Rattle.rules.specs.Claim.{topOf, Keeps, Safe}
 use Rattle.rules.proofs.Obeys.{busy}
 use Rattle.rules.proofs.Ready.{Ready, Arrived, Stepped, under-top, free, not-home, one-step}
 
 -- the way home within p cycles, from the registers r and the memory m, with the return addresses `used` in use
 pub record Course (f : Fields) (need : ℕ) (r : Registers) (m : List ℕ) (used : List (List ℕ)) (p : ℕ) : Type 0 where
-  pub deeds : List Deed
+  pub events : List Event
   pub last : Registers
   pub memory : List ℕ
-  pub along : Along r m deeds last memory
+  pub along : Along r m events last memory
   pub home : last .pc ≡ 0
-  pub in-time : total deeds ≤ p
+  pub in-time : total events ≤ p
   pub empty : last .sp ≡ topOf f
-  pub safe : Safe f need used deeds
+  pub safe : Safe f need used events
 
 module _ {f : Fields} {image : List ℕ} (A : Accepted f image) where
   module _ (r : Registers) (m : List ℕ) (used : List (List ℕ)) (p : ℕ) (away : r .pc ≡ 0 → ⊥) (S : Stepped A r m used p) where
-    abbrev deed : Deed
-    deed = record { kind = kindOf m (r .pc); stores = S .stores; cycles = S .cycles; sp = S .registers .sp }
+    abbrev event : Event
+    event = record { flow = flowOf m (r .pc); stores = S .stores; cycles = S .cycles; sp = S .registers .sp }
 
     -- after the step
     abbrev Next : (Registers → List ℕ → List (List ℕ) → ℕ → Type 0) → Type 0
-    Next P = P (S .registers) (applied (S .stores) m) (inUseAfter (kindOf m (r .pc)) (S .stores) used) (S .left)
+    Next P = P (S .registers) (applied (S .stores) m) (inUseAfter (flowOf m (r .pc)) (S .stores) used) (S .left)
 
-    first : Keeps f (A .start .need .0) used deed → Next (Course f (A .start .need .0)) → Course f (A .start .need .0) r m used p
+    first : Keeps f (A .start .need .0) used event → Next (Course f (A .start .need .0)) → Course f (A .start .need .0) r m used p
     first K C = record {
-      deeds = deed ∷ C .deeds;
+      events = event ∷ C .events;
       last = C .last;
       memory = C .memory;
       along = then away (S .done) (C .along);
@@ -49,7 +50,7 @@ module _ {f : Fields} {image : List ℕ} (A : Accepted f image) where
     next : (Next (Ready A) → Next (Course f (A .start .need .0))) → Arrived f (S .registers) ⊎ Next (Ready A) → Course f (A .start .need .0) r m used p
     next rest (inl a) =
         first (record { spares = S .spares; sp-low = omega (arith, a .sp); sp-high = omega (arith, a .sp); sp-need = omega (arith, a .sp) })
-        (record { deeds = []; last = S .registers; memory = applied (S .stores) m; along = stay; home = a .pc; in-time = omega arith; empty = a .sp; safe = tt })
+        (record { events = []; last = S .registers; memory = applied (S .stores) m; along = stay; home = a .pc; in-time = omega arith; empty = a .sp; safe = tt })
     next rest (inr R) =
         first (record { spares = S .spares; sp-low = omega (arith, free R); sp-high = omega (arith, under-top R, R .depth); sp-need = omega (arith, R .room) })
         (rest R)
@@ -61,6 +62,6 @@ module _ {f : Fields} {image : List ℕ} (A : Accepted f image) where
   course (suc n) r m used p b R =
       let S = one-step R in
       next r m used p (not-home R) S
-      (course n (S .registers) (applied (S .stores) m) (inUseAfter (kindOf m (r .pc)) (S .stores) used) (S .left)
+      (course n (S .registers) (applied (S .stores) m) (inUseAfter (flowOf m (r .pc)) (S .stores) used) (S .left)
       (omega (arith, busy r (S .registers) m (S .stores) (S .cycles) (S .done), S .cost)))
       (S .goes)

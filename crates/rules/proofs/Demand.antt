@@ -21,7 +21,7 @@ pub comes-home : (f : Fields) (image : List ℕ) (A : Accepted f image) → Dema
 comes-home f image A d m L =
     let c = start-course f image A d m L in
     record {
-      deeds = c .deeds;
+      events = c .events;
       last = c .last;
       memory = c .memory;
       along = c .along;

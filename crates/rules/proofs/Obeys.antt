@@ -28,7 +28,7 @@ use Rattle.stepper.specs.Step.{Did, did, fetched, executed, carriedOut, didIf, 
 use Rattle.stepper.proofs.Costs.{step-cost}
 use Rattle.commands.specs.Every.{Every, none, more}
 use Rattle.rules.specs.Shape.{Shape, ordinary, call, return, forbidden, nothing, shapeBy, shapeIn, shapeOf}
-use Rattle.rules.specs.Trace.{calls, returns, plain, kindBy, kindIn, kindOf}
+use Rattle.stepper.specs.Trace.{calls, returns, plain, flowBy, flowIn, flowOf}
 
 -- some element of a list has a property
 abbrev pub Some : (ℕ → Type 0) → List ℕ → Type 0
@@ -46,13 +46,13 @@ Stored r pushed pulled written w = ((i : ℕ) × (i + pulled < pushed) × (w .at
 
 abbrev pub Obeys : Shape → Registers → List ℕ → Type 0
 Obeys (ordinary next pushed pulled written k) r m =
-    (q : Registers) × (ws : List Store) × (didOf r m ≡ did q ws k) × (kindOf m (r .pc) ≡ plain) × Some (λ a. q .pc ≡ a) next
+    (q : Registers) × (ws : List Store) × (didOf r m ≡ did q ws k) × (flowOf m (r .pc) ≡ plain) × Some (λ a. q .pc ≡ a) next
     × (q .sp ≡ (r .sp + pulled + (65536 - pushed)) % 65536) × Every (Stored r pushed pulled written) ws
 Obeys (call target after k) r m =
     (q : Registers) × (didOf r m ≡ did q (store (r .sp) (after % 256) ∷ store (wrappingSub (r .sp) 1) (after / 256) ∷ []) k)
-    × (kindOf m (r .pc) ≡ calls) × (q .pc ≡ target) × (q .sp ≡ wrappingSub (r .sp) 2)
+    × (flowOf m (r .pc) ≡ calls) × (q .pc ≡ target) × (q .sp ≡ wrappingSub (r .sp) 2)
 Obeys (return k) r m =
-    (q : Registers) × (didOf r m ≡ did q [] k) × (kindOf m (r .pc) ≡ returns) × (q .pc ≡ wordAt m (wrappingAdd (r .sp) 1)) × (q .sp ≡ wrappingAdd (r .sp) 2)
+    (q : Registers) × (didOf r m ≡ did q [] k) × (flowOf m (r .pc) ≡ returns) × (q .pc ≡ wordAt m (wrappingAdd (r .sp) 1)) × (q .sp ≡ wrappingAdd (r .sp) 2)
 Obeys forbidden r m = Unit
 Obeys nothing r m = Unit
 
@@ -73,7 +73,7 @@ module _ (r : Registers) (m : List ℕ) (low : r .sp < 65536) where
 
   -- next is the address after the instruction; w is what it computed, which does not matter
   by-form : (g : Form) (next k : ℕ) (w : Outcome) → didOf r m ≡ executed (waits g) (r .pc) (effectWith g (withPc r next) w m) k
-      → kindOf m (r .pc) ≡ kindBy g → Obeys (shapeBy g next k) r m
+      → flowOf m (r .pc) ≡ flowBy g → Obeys (shapeBy g next k) r m
   unfolding effectBy addressOf wrappingAdd wrappingSub
   by-form Computes next k w e h = (_, _, e, h, inl refl, kept, none)
   by-form (StoresByte (Fixed a)) next k w e h = (_, _, e, h, inl refl, kept, more (inr (inl refl)) none)
@@ -102,7 +102,7 @@ module _ (r : Registers) (m : List ℕ) (low : r .sp < 65536) where
   by-form Resumes next k w e h = tt
   by-form Waits next k w e h = tt
 
-  by-decoded : (p : ℕ) (d : Decoded) → didOf r m ≡ carriedOut p d r m → kindOf m (r .pc) ≡ kindIn p d (r .pc) → Obeys (shapeIn p d (r .pc)) r m
+  by-decoded : (p : ℕ) (d : Decoded) → didOf r m ≡ carriedOut p d r m → flowOf m (r .pc) ≡ flowIn p d (r .pc) → Obeys (shapeIn p d (r .pc)) r m
   unfolding carriedOut effectOf
   by-decoded p Nothing e h = tt
   by-decoded p (Instruction a o) e h =
@@ -111,7 +111,7 @@ module _ (r : Registers) (m : List ℕ) (low : r .sp < 65536) where
       by-form (formOf a o next) next (cyclesAt p) (outcomeOf a (maskOf o) (inputOf (readsOf a) o q m) q) e h
 
 pub obeys : (r : Registers) (m : List ℕ) → length m ≡ 65536 → r .sp < 65536 → Obeys (shapeOf (fetched m (r .pc)) (r .pc)) r m
-unfolding shapeOf didOf kindOf
+unfolding shapeOf didOf flowOf
 obeys r m whole low =
     let f = fetched m (r .pc) in
     by-decoded r m low (placeIn f) (decodeOf f) (ap (λ (b : Bool). didIf b r m) (eq-eqb _ _ whole)) refl

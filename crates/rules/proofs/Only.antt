@@ -6,13 +6,13 @@ use mathlib.Core.List.{List}
 use Rattle.registers.specs.declared.Registers.{Registers}
 use Rattle.memory.specs.Memory.{Store}
 use Rattle.stepper.specs.Step.{did}
-use Rattle.rules.specs.Trace.{Deed, Along, stay, then}
+use Rattle.stepper.specs.Trace.{Event, Along, stay, then}
 
 -- what is done tells the registers, the stores and the cycles
 parts : {q q′ : Registers} {ws ws′ : List Store} {k k′ : ℕ} → did q ws k ≡ did q′ ws′ k′ → (q ≡ q′) × (ws ≡ ws′) × (k ≡ k′)
 parts e = (cc, cc, cc)
 
-pub only : {r : Registers} {m : List ℕ} {ds ds′ : List Deed} {e e′ : Registers} {n n′ : List ℕ} → Along r m ds e n → e .pc ≡ 0 → Along r m ds′ e′ n′ → e′ .pc ≡ 0
+pub only : {r : Registers} {m : List ℕ} {ds ds′ : List Event} {e e′ : Registers} {n n′ : List ℕ} → Along r m ds e n → e .pc ≡ 0 → Along r m ds′ e′ n′ → e′ .pc ≡ 0
     → (ds′ ≡ ds) × (e′ ≡ e) × (n′ ≡ n)
 only stay h stay h′ = (refl, refl, refl)
 only stay h (then away d a) h′ = absurd (away h)

@@ -19,7 +19,8 @@ use Rattle.ticket.specs.Rules.{In, HeaderRules, MarkRules}
 use Rattle.rules.specs.Shape.{Shape, ordinary, call, return, forbidden, nothing, shapeOf}
 use Rattle.rules.specs.Marks.{claimAt, imageFrom}
 use Rattle.rules.specs.Rules.{Follows, OrdinaryRules, CallRules, ReturnRules, RulesBy, RulesAt, Accepted}
-use Rattle.rules.specs.Trace.{kindOf, inUseAfter}
+use Rattle.rules.specs.InUse.{inUseAfter}
+use Rattle.stepper.specs.Trace.{flowOf}
 use Rattle.rules.specs.Claim.{topOf, Spares}
 use Rattle.rules.proofs.Obeys.{every-some, Stored, Obeys, obeys}
 use Rattle.rules.proofs.SameShape.{same-shape}
@@ -56,7 +57,7 @@ pub record Stepped {f : Fields} {image : List ℕ} (A : Accepted f image) (r : R
   pub done : didOf r m ≡ did registers stores cycles
   pub spares : Every (Spares f used) stores
   pub cost : cycles + left ≤ p
-  pub goes : Arrived f registers ⊎ Ready A registers (applied stores m) (inUseAfter (kindOf m (r .pc)) stores used) left
+  pub goes : Arrived f registers ⊎ Ready A registers (applied stores m) (inUseAfter (flowOf m (r .pc)) stores used) left
 
 module _ {f : Fields} {image : List ℕ} {A : Accepted f image} {r : Registers} {m : List ℕ} {used : List (List ℕ)} {p : ℕ} (R : Ready A r m used p) where
   rules : HeaderRules (f .header)

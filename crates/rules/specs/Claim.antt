@@ -14,7 +14,8 @@ use Rattle.stepper.specs.Run.{AfterRun, runOf}
 use Rattle.ticket.specs.Fields.{Fields}
 use Rattle.commands.specs.Every.{Every}
 use Rattle.ticket.specs.Rules.{In}
-use Rattle.rules.specs.Trace.{Deed, total, Along, inUseAfter}
+use Rattle.rules.specs.InUse.{inUseAfter}
+use Rattle.stepper.specs.Trace.{Event, total, Along}
 
 -- T, the stack window's last address
 abbrev pub topOf : Fields → ℕ
@@ -34,15 +35,15 @@ pub record Spares (f : Fields) (used : List (List ℕ)) (w : Store) : Type 0 whe
   pub returns : Every (Every (λ a. w .at ≡ a → ⊥)) used
 
 -- after an instruction SP lies from one below the stack window to T, and never more than need below the start's
-pub record Keeps (f : Fields) (need : ℕ) (used : List (List ℕ)) (d : Deed) : Type 0 where
+pub record Keeps (f : Fields) (need : ℕ) (used : List (List ℕ)) (d : Event) : Type 0 where
   pub spares : Every (Spares f used) (d .stores)
   pub sp-low : f .header .stack .start ≤ d .sp + 1
   pub sp-high : d .sp ≤ topOf f
   pub sp-need : topOf f ≤ d .sp + 2 + need
 
-abbrev pub Safe : Fields → ℕ → List (List ℕ) → List Deed → Type 0
+abbrev pub Safe : Fields → ℕ → List (List ℕ) → List Event → Type 0
 Safe f need used [] = Unit
-Safe f need used (d ∷ ds) = Keeps f need used d × Safe f need (inUseAfter (d .kind) (d .stores) used) ds
+Safe f need used (d ∷ ds) = Keeps f need used d × Safe f need (inUseAfter (d .flow) (d .stores) used) ds
 
 -- home's two bytes are in use from the start
 abbrev pub homePair : Fields → List ℕ
@@ -56,11 +57,11 @@ abbrev pub ranSpent : Registers → List ℕ → ℕ → AfterRun
 ranSpent q n k = record { answer = spent q (record { 0 = k }); memory = n }
 
 -- where the budget b does not cover a trace: the run goes along it as far as the budget does
-pub record Stops (r : Registers) (m : List ℕ) (deeds : List Deed) (b : ℕ) : Type 0 where
-  pub before : List Deed
-  pub next : Deed
-  pub rest : List Deed
-  pub parts : deeds ≡ before ++ (next ∷ rest)
+pub record Stops (r : Registers) (m : List ℕ) (events : List Event) (b : ℕ) : Type 0 where
+  pub before : List Event
+  pub next : Event
+  pub rest : List Event
+  pub parts : events ≡ before ++ (next ∷ rest)
   pub registers : Registers
   pub memory : List ℕ
   pub along : Along r m before registers memory
@@ -71,20 +72,20 @@ pub record Stops (r : Registers) (m : List ℕ) (deeds : List Deed) (b : ℕ) : 
 -- from the registers r and the memory m, where cost and need are the entry's
 pub record ComesHome (f : Fields) (cost need : ℕ) (r : Registers) (m : List ℕ) : Type 0 where
   -- the way home: the instructions, and the registers and the memory reached
-  pub deeds : List Deed
+  pub events : List Event
   pub last : Registers
   pub memory : List ℕ
-  pub along : Along r m deeds last memory
+  pub along : Along r m events last memory
   pub home : last .pc ≡ 0
   -- it is the only one
-  pub only : (ds : List Deed) (e : Registers) (n : List ℕ) → Along r m ds e n → e .pc ≡ 0 → (ds ≡ deeds) × (e ≡ last) × (n ≡ memory)
+  pub only : (ds : List Event) (e : Registers) (n : List ℕ) → Along r m ds e n → e .pc ≡ 0 → (ds ≡ events) × (e ≡ last) × (n ≡ memory)
   -- it ends within the certified cycles, with an empty stack
-  pub in-time : total deeds ≤ cost
+  pub in-time : total events ≤ cost
   pub empty : last .sp ≡ topOf f
-  pub safe : Safe f need (homePair f ∷ []) deeds
+  pub safe : Safe f need (homePair f ∷ []) events
   -- the run, for every budget
-  pub covered : (b : ℕ) → total deeds ≤ b → runOf r m b ≡ ranHome last memory (total deeds)
-  pub uncovered : (b : ℕ) → b < total deeds → Stops r m deeds b
+  pub covered : (b : ℕ) → total events ≤ b → runOf r m b ≡ ranHome last memory (total events)
+  pub uncovered : (b : ℕ) → b < total events → Stops r m events b
 
 -- of an accepted ticket and image, for all A, B, X, Y and flags and all memory outside the code and home bytes
 abbrev pub Demand3 : Fields → List ℕ → ℕ → ℕ → Type 0

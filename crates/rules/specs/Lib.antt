@@ -2,5 +2,5 @@ pub mod Shape
 pub mod Marks
 pub mod Rules
 pub mod Checks
-pub mod Trace
+pub mod InUse
 pub mod Claim

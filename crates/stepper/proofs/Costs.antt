@@ -1,6 +1,6 @@
--- Every instruction that is done takes 2 cycles or more.
+-- Every instruction that is done takes 2 to 255 cycles.
 -- Assumes nothing.
-use mathlib.Core.Path.{_≡_, refl, ap, subst}
+use mathlib.Core.Path.{_≡_, refl, ap}
 use mathlib.Core.Bool.{Bool, true, false}
 use mathlib.Core.List.{List}
 use mathlib.Core.Logic.{⊎-elim}
@@ -39,17 +39,24 @@ module _ (r : Registers) (m : List ℕ) (q : Registers) (k : Cycles) where
       let next = withPc r (wrappingAdd (r .pc) (lengthAt p)) in
       by-wait (waits (formOf a o (next .pc))) (effectOf a o next m) (cyclesAt p) s
 
-  carried : (p : ℕ) (f : Bytes) (d : Decoded) → decodeAt p f ≡ d → after (carriedOut p d r m) m .answer ≡ done q k → 2 ≤ k .0
+  carried : (p : ℕ) (f : Bytes) (d : Decoded) → decodeAt p f ≡ d → after (carriedOut p d r m) m .answer ≡ done q k
+      → (2 ≤ k .0) × (k .0 ≤ 255)
   unfolding carriedOut
   carried p f Nothing e s = let z : _≡_ {A = ℕ} 0 1 = cc in absurd (omega (arith, z))
   carried p f (Instruction a o) e s =
       ⊎-elim (λ w. let n = none-there p f w in let z : _≡_ {A = ℕ} 0 1 = cc in absurd (omega (arith, z)))
-      (λ w. subst (λ (x : ℕ). 2 ≤ x) (own-cycles p a o s) (w .2)) (ruled-at-all p)
+      (λ w. let own = own-cycles p a o s in (omega (arith, own, w .2), omega (arith, own))) (ruled-at-all p)
 
-  by-length : (b : Bool) → after (didIf b r m) m .answer ≡ done q k → 2 ≤ k .0
+  by-length : (b : Bool) → after (didIf b r m) m .answer ≡ done q k → (2 ≤ k .0) × (k .0 ≤ 255)
   by-length true s = let f = fetched m (r .pc) in carried (placeIn f) f (decodeAt (placeIn f) f) refl s
   by-length false s = let z : _≡_ {A = ℕ} 0 1 = cc in absurd (omega (arith, z))
 
-  pub step-cost : stepOf r m .answer ≡ done q k → 2 ≤ k .0
+  by-step : stepOf r m .answer ≡ done q k → (2 ≤ k .0) × (k .0 ≤ 255)
   unfolding stepOf didOf
-  step-cost s = by-length (eqb (length m) 65536) s
+  by-step s = by-length (eqb (length m) 65536) s
+
+  pub step-cost : stepOf r m .answer ≡ done q k → 2 ≤ k .0
+  step-cost s = by-step s .0
+
+  pub step-most : stepOf r m .answer ≡ done q k → k .0 ≤ 255
+  step-most s = by-step s .1

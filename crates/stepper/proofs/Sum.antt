@@ -1,44 +1,60 @@
--- The cycles that a run answers are the sum over the instructions that it executed.
+-- The cycles that a run answers are the sum over the instructions that it executed: those of a trace from its registers
+-- and memory to the ones that it answers.
 -- Assumes nothing.
-use mathlib.Core.Path.{_≡_, refl, sym, subst, _∙_}
+use mathlib.Core.Path.{_≡_, refl}
 use mathlib.Core.Bool.{Bool, true, false}
 use mathlib.Core.List.{List, [], _∷_}
 use Prim.Native.Nat.{ℕ, zero, suc, _+_}
 use native.Mathlib.Omega.{arith}
 use lib.Dec.{eqb, leb}
 use lib.ListN.{length}
+use borrow.Author.Tests.{eqb-false}
 use Rattle.registers.specs.declared.Registers.{Registers}
-use Rattle.stepper.specs.Answer.{Answer, done, refused}
-use Rattle.stepper.specs.Step.{stepOf}
-use Rattle.stepper.specs.Run.{Rest, ifCovered, onward, turn, runFrom, runIf, runOf}
-use Rattle.stepper.specs.Advance.{stepped}
-use Rattle.stepper.specs.Steps.{Steps, none, first, Sums}
-use Rattle.stepper.proofs.Unchanged.{unchanged}
+use Rattle.memory.specs.Memory.{Store, applied}
+use Rattle.stepper.specs.Answer.{registersReached, cyclesSpent}
+use Rattle.stepper.specs.Step.{Did, did, stopped, didOf, after, stepOf}
+use Rattle.stepper.specs.Run.{AfterRun, Rest, ifCovered, ifDone, turn, runFrom, runIf, runOf}
+use Rattle.stepper.specs.Trace.{Event, flowOf, total, Along, stay, then}
 
-module _ (b : ℕ) (f : Rest) (sums : (t : ℕ) (q : Registers) (n : List ℕ) → Sums q n t (f t q n)) (s : ℕ) (r : Registers) (m : List ℕ) where
-  by-cover : (c : Bool) {q : Registers} {k : ℕ} {m′ : List ℕ} → stepOf r m ≡ stepped q k m′ → Sums r m s (ifCovered c s r m k q m′ f)
-  by-cover true {q} {k} {m′} e =
-      let w = sums (s + k) q m′ in (k ∷ w .0, first e (w .1), omega (arith, w .2))
-  by-cover false e = ([], none, omega arith)
+-- from r and m a trace leads to what a run answers, and s and its cycles together are the cycles that the run answers
+abbrev SumsFrom : Registers → List ℕ → ℕ → AfterRun → Type 0
+SumsFrom r m s w =
+    (events : List Event) × Along r m events (registersReached (w .answer)) (w .memory)
+    × (cyclesSpent (w .answer) ≡ s + total events)
 
-  by-answer : (a : Answer) (m′ : List ℕ) → stepOf r m ≡ record { answer = a; memory = m′ } → m′ ≡ stepOf r m .memory → stepOf r m .answer ≡ a
-      → Sums r m s (onward a m′ b s r m f)
-  by-answer (refused n p) m′ e g h = ([], subst (λ (x : List ℕ). Steps r m [] r x) (sym (g ∙ unchanged r m h)) none, omega arith)
-  by-answer (done q k) m′ e g h = by-cover (leb (s + k .0) b) e
+module _ (b : ℕ) (f : Rest) (sums : (t : ℕ) (q : Registers) (n : List ℕ) → SumsFrom q n t (f t q n))
+    (s : ℕ) (r : Registers) (m : List ℕ) where
+  module _ (away : r .pc ≡ 0 → ⊥) where
+    by-cover : (c : Bool) {q : Registers} {ws : List Store} {k : ℕ} → didOf r m ≡ did q ws k
+        → SumsFrom r m s (ifCovered c s r m k q (applied ws m) f)
+    by-cover true {q} {ws} {k} e =
+        let w = sums (s + k) q (applied ws m) in
+        let first : Event = record { flow = flowOf m (r .pc); stores = ws; cycles = k; sp = q .sp } in
+        (first ∷ w .0, then away e (w .1), omega (arith, w .2))
+    by-cover false e = ([], stay, omega arith)
 
-  by-home : (h : Bool) → Sums r m s (turn h b s r m f)
-  by-home true = ([], none, omega arith)
-  by-home false = by-answer (stepOf r m .answer) (stepOf r m .memory) refl refl refl
+    by-did : (d : Did) → didOf r m ≡ d → SumsFrom r m s (ifDone (after d m .answer) (after d m .memory) b s r m f)
+    by-did (stopped n p) e = ([], stay, omega arith)
+    by-did (did q ws k) e = by-cover (leb (s + k) b) e
 
-from : (n b s : ℕ) (r : Registers) (m : List ℕ) → Sums r m s (runFrom n b s r m)
+  by-home : (h : Bool) → eqb (r .pc) 0 ≡ h → SumsFrom r m s (turn h b s r m f)
+  unfolding stepOf
+  by-home true e = ([], stay, omega arith)
+  by-home false e = by-did (eqb-false (r .pc) 0 e) (didOf r m) refl
+
+from : (n b s : ℕ) (r : Registers) (m : List ℕ) → SumsFrom r m s (runFrom n b s r m)
 unfolding runFrom
-from zero b s r m = ([], none, omega arith)
-from (suc n) b s r m = by-home b (λ t q m′. runFrom n b t q m′) (λ t q m′. from n b t q m′) s r m (eqb (r .pc) 0)
+from zero b s r m = ([], stay, omega arith)
+from (suc n) b s r m =
+    by-home b (λ t q m′. runFrom n b t q m′) (λ t q m′. from n b t q m′) s r m (eqb (r .pc) 0) refl
 
-by-length : (c : Bool) (r : Registers) (m : List ℕ) (b : ℕ) → Sums r m 0 (runIf c r m b)
+by-length : (c : Bool) (r : Registers) (m : List ℕ) (b : ℕ) → SumsFrom r m 0 (runIf c r m b)
 by-length true r m b = from (suc b) b 0 r m
-by-length false r m b = ([], none, omega arith)
+by-length false r m b = ([], stay, omega arith)
 
-pub run-sums : (r : Registers) (m : List ℕ) (b : ℕ) → Sums r m 0 (runOf r m b)
+pub run-sums : (r : Registers) (m : List ℕ) (b : ℕ)
+    → let w = runOf r m b in
+    (events : List Event) × Along r m events (registersReached (w .answer)) (w .memory)
+    × (cyclesSpent (w .answer) ≡ total events)
 unfolding runOf
-run-sums r m b = by-length (eqb (length m) 65536) r m b
+run-sums r m b = let s = by-length (eqb (length m) 65536) r m b in (s .0, s .1, omega (arith, s .2))

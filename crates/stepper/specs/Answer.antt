@@ -1,10 +1,9 @@
--- What a step and a run answer, with document 01's numbers and places ("Where a ticket stops", step and run), and what the code's enums say of it.
+-- What a step and a run answer, with document 01's numbers and places ("Where a ticket stops", step and run), and what
+-- the code's enums say of it.
 -- Assumes nothing.
 use Prim.Native.Nat.{ℕ}
 use Rattle.registers.specs.declared.Cycles.{Cycles}
 use Rattle.registers.specs.declared.Registers.{Registers}
-use Rattle.stepper.specs.declared.answer.Refusal.{Refusal}
-use Rattle.stepper.specs.declared.answer.Refusal.the-variants.{BadMemory, NoInstruction, Waits}
 use Rattle.stepper.specs.declared.answer.Stepped.{Stepped}
 use Rattle.stepper.specs.declared.answer.Stepped.the-variants as Stepped
 use Rattle.stepper.specs.declared.answer.Ran.{Ran}
@@ -21,21 +20,21 @@ pub data RunAnswer : Type 0 where
   spent : Registers → Cycles → RunAnswer
   refused : (number place : ℕ) → Registers → Cycles → RunAnswer
 
-abbrev pub numberOf : Refusal → ℕ
-numberOf BadMemory = 21
-numberOf (NoInstruction pc) = 22
-numberOf (Waits pc) = 23
+abbrev pub registersReached : RunAnswer → Registers
+registersReached (home r k) = r
+registersReached (spent r k) = r
+registersReached (refused n p r k) = r
 
-abbrev pub placeOf : Refusal → ℕ
-placeOf BadMemory = 0
-placeOf (NoInstruction pc) = pc
-placeOf (Waits pc) = pc
+abbrev pub cyclesSpent : RunAnswer → ℕ
+cyclesSpent (home r k) = k .0
+cyclesSpent (spent r k) = k .0
+cyclesSpent (refused n p r k) = k .0
 
 abbrev pub answerOf : Stepped → Answer
 answerOf (Stepped.Done r k) = done r k
-answerOf (Stepped.Refused x) = refused (numberOf x) (placeOf x)
+answerOf (Stepped.Refused x) = refused (x .number) (x .place)
 
 abbrev pub ranOf : Ran → RunAnswer
 ranOf (Ran.Home r k) = home r k
 ranOf (Ran.Spent r k) = spent r k
-ranOf (Ran.Refused r k x) = refused (numberOf x) (placeOf x) r k
+ranOf (Ran.Refused r k x) = refused (x .number) (x .place) r k

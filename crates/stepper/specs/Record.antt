@@ -1,10 +1,11 @@
--- One step on a lent register record (document 01, "The machine": "Inside the library the monitor lends its register record, and one thin call advances it by a step").
+-- One step on a lent register record (document 01, "The machine": "Inside the library the monitor lends its register
+-- record, and one thin call advances it by a step").
 -- Assumes nothing.
 use Prim.Native.Nat.{ℕ}
 use mathlib.Core.List.{List}
 use Rattle.registers.specs.declared.Cycles.{Cycles}
 use Rattle.registers.specs.declared.Registers.{Registers}
-use Rattle.stepper.specs.Answer.{Answer, done as stepDone, refused as stepRefused, numberOf, placeOf}
+use Rattle.stepper.specs.Answer.{Answer, done as stepDone, refused as stepRefused}
 use Rattle.stepper.specs.Step.{stepOf}
 use Rattle.stepper.specs.declared.record.Advanced.{Advanced}
 use Rattle.stepper.specs.declared.record.Advanced.the-variants.{Done, Refused}
@@ -31,7 +32,7 @@ advanceOf r m = let d = stepOf r m in afterStep (d .answer) r (d .memory)
 -- what the code's answer says
 abbrev pub advancedOf : Advanced → AdvanceAnswer
 advancedOf (Done k) = done k
-advancedOf (Refused x) = refused (numberOf x) (placeOf x)
+advancedOf (Refused x) = refused (x .number) (x .place)
 
 abbrev pub afterwards : Advanced → Registers → List ℕ → AfterAdvance
 afterwards a r m = record { answer = advancedOf a; registers = r; memory = m }

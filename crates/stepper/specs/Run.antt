@@ -22,14 +22,15 @@ abbrev pub ifCovered : Bool → ℕ → Registers → List ℕ → ℕ → Regis
 ifCovered true s r m k q m′ f = f (s + k) q m′
 ifCovered false s r m k q m′ f = record { answer = spent r (record { 0 = s }); memory = m }
 
-abbrev pub onward : Answer → List ℕ → ℕ → ℕ → Registers → List ℕ → Rest → AfterRun
-onward (refused n p) m′ b s r m f = record { answer = runRefused n p r (record { 0 = s }); memory = m′ }
-onward (done q k) m′ b s r m f = ifCovered (leb (s + k .0) b) s r m (k .0) q m′ f
+-- a refused step ends the run
+abbrev pub ifDone : Answer → List ℕ → ℕ → ℕ → Registers → List ℕ → Rest → AfterRun
+ifDone (refused n p) m′ b s r m f = record { answer = runRefused n p r (record { 0 = s }); memory = m′ }
+ifDone (done q k) m′ b s r m f = ifCovered (leb (s + k .0) b) s r m (k .0) q m′ f
 
 -- home is PC $0000
 abbrev pub turn : Bool → ℕ → ℕ → Registers → List ℕ → Rest → AfterRun
 turn true b s r m f = record { answer = home r (record { 0 = s }); memory = m }
-turn false b s r m f = let d = stepOf r m in onward (d .answer) (d .memory) b s r m f
+turn false b s r m f = let d = stepOf r m in ifDone (d .answer) (d .memory) b s r m f
 
 -- at most n turns
 unfoldable pub runFrom : ℕ → ℕ → ℕ → Registers → List ℕ → AfterRun
@@ -40,6 +41,7 @@ abbrev pub runIf : Bool → Registers → List ℕ → ℕ → AfterRun
 runIf true r m b = runFrom (suc b) b 0 r m
 runIf false r m b = record { answer = runRefused 21 0 r (record { 0 = 0 }); memory = m }
 
--- a memory of another length is refused first, home or not. Every instruction takes a cycle or more, so one turn more than the budget is enough
+-- a memory of another length is refused first, home or not. Every instruction takes a cycle or more, so one turn more
+-- than the budget is enough
 unfoldable pub runOf : Registers → List ℕ → ℕ → AfterRun
 runOf r m b = runIf (eqb (length m) 65536) r m b

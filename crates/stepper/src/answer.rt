@@ -1,13 +1,7 @@
 // What a step and a run answer. The registers and the cycles stand first in every case, so that they lie at one place.
+use answers::Refusal;
 use registers::Cycles;
 use registers::Registers;
-
-// Document 01's refusals 21, 22 and 23; the place of the last two is PC.
-pub enum Refusal {
-    BadMemory,
-    NoInstruction(u16),
-    Waits(u16),
-}
 
 pub enum Stepped {
     Done(Registers, Cycles),

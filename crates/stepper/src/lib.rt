@@ -1,70 +1,64 @@
-// The stepper: one instruction, and a run of instructions within a cycle budget. `step` and `run` are the interface, and take any registers
-// and any memory; `answer` has what they answer, and `advance` is an inner room.
+// The stepper: one instruction, and a run of instructions within a cycle budget. `step`, `run` and, on a lent register
+// record, `record::advance` are the interface, and take any registers and any memory.
 ghost use mathlib.Core.Path.{_≡_};
 ghost use Rattle.stepper.specs.Answer.{answerOf, ranOf};
 ghost use Rattle.stepper.specs.Step.{stepOf};
 ghost use Rattle.stepper.specs.Run.{runOf};
-ghost use Rattle.stepper.specs.Advance.{firstOf};
-use crate::advance::find;
-use crate::advance::go;
+ghost use Rattle.stepper.specs.inner.Until.{endedOf, asStep};
 use crate::answer::Ran;
-use crate::answer::Refusal;
 use crate::answer::Stepped;
-use opcodes::lookup::Found;
-use opcodes::table::costs;
+use crate::until::Ended;
+use crate::until::run_until;
+use answers::refuse;
 use registers::Cycles;
 use registers::Registers;
 
 pub mod answer; // what a step and a run answer
-mod advance; // the loop over the instructions
-pub mod record;
+pub mod record; // a step on a lent register record
+mod until; // the loop over the instructions that both are
 
-// What the loop answers with the next instruction's own cycles as its budget: no second instruction is begun. Where no cycle is spent the
-// instruction itself is refused.
-fn stepped(a: Ran) -> Stepped
-    ensures { λ q. ⌜ answerOf q ≡ firstOf (ranOf a) ⌝ }
+// What a step answers where its one instruction ends the loop. 255 cycles cover every instruction: none is `Spent`.
+fn stepped(a: Ended) -> Stepped
+    ensures { λ q. ⌜ answerOf q ≡ asStep (endedOf a) ⌝ }
 {
     match a {
-        Ran::Home(q, c) => Stepped::Done(q, c),
-        Ran::Spent(q, c) => Stepped::Done(q, c),
-        Ran::Refused(q, c, x) => {
-            if c.0 == 0 {
-                Stepped::Refused(x)
-            } else {
-                Stepped::Done(q, c)
-            }
-        }
+        Ended::Arrived(q, c) => Stepped::Done(q, c),
+        Ended::Spent(q, c) => Stepped::Done(q, c),
+        Ended::Refused(q, _, n) => Stepped::Refused(refuse(n, q.pc as u32)),
     }
 }
 
-// One instruction.
+fn ran(a: Ended) -> Ran
+    ensures { λ q. ⌜ ranOf q ≡ endedOf a ⌝ }
+{
+    match a {
+        Ended::Arrived(q, c) => Ran::Home(q, c),
+        Ended::Spent(q, c) => Ran::Spent(q, c),
+        Ended::Refused(q, c, n) => Ran::Refused(q, c, refuse(n, q.pc as u32)),
+    }
+}
+
+// One instruction: the loop ends wherever that leads.
 pub fn step(r: Registers, mem: &mut [u8]) -> Stepped
-    ensures { λ q. ⌜ (answerOf q ≡ stepOf r (now (mem .entry)) .answer) × (now (mem .exit) ≡ stepOf r (now (mem .entry)) .memory) ⌝ }
+    ensures { λ q. ⌜ (answerOf q ≡ stepOf r (now (mem .entry)) .answer)
+        × (now (mem .exit) ≡ stepOf r (now (mem .entry)) .memory) ⌝ }
 {
     if mem.len() != 65536 {
-        return Stepped::Refused(Refusal::BadMemory);
+        return Stepped::Refused(refuse(21, 0));
     }
-    let tc = costs();
-    let pc = r.pc;
-    match find(mem, pc, &tc) {
-        Found::Nothing => Stepped::Refused(Refusal::NoInstruction(pc)),
-        Found::At {
-            place: _,
-            size: _,
-            cost: e,
-        } => stepped(go(r, mem, e % 256)),
-    }
+    stepped(run_until(r, mem, 255, 65535))
 }
 
-// Instructions until home, a refusal, or one that would pass the budget.
+// Instructions until home, a refusal, or one that would pass the budget: the loop ends at PC 0.
 pub fn run(r: Registers, mem: &mut [u8], budget: u32) -> Ran
-    ensures { λ q. ⌜ (ranOf q ≡ runOf r (now (mem .entry)) budget .answer) × (now (mem .exit) ≡ runOf r (now (mem .entry)) budget .memory) ⌝ }
+    ensures { λ q. ⌜ (ranOf q ≡ runOf r (now (mem .entry)) budget .answer)
+        × (now (mem .exit) ≡ runOf r (now (mem .entry)) budget .memory) ⌝ }
 {
     if mem.len() != 65536 {
-        return Ran::Refused(r, Cycles(0), Refusal::BadMemory);
+        return Ran::Refused(r, Cycles(0), refuse(21, 0));
     }
     if r.pc == 0 {
         return Ran::Home(r, Cycles(0));
     }
-    go(r, mem, budget)
+    ran(run_until(r, mem, budget, 0))
 }

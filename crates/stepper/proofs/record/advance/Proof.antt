@@ -1,5 +1,5 @@
--- `record::advance` meets its contract: a walk of its MIR, by hand. The record's borrow is opened, which gives its cell; the registers in it go to `reach` by value, and with them the memory, at its own lifetime, share and ghost name; those that `reach` answers go into the cell, and the borrow is closed at them.
--- All that the proof knows of `reach` is that it meets its contract.
+-- `record::advance` meets its contract: a walk of its MIR, by hand. The record's borrow is opened, which gives its cell; the registers in it go to `advance_value` by value, and with them the memory, at its own lifetime, share and ghost name; those that `advance_value` answers go into the cell, and the borrow is closed at them.
+-- All that the proof knows of `advance_value` is that it meets its contract.
 -- Assumes nothing.
 use mathlib.Core.Path.{_≡_, refl, ap}
 use Prim.Native.Nat.{ℕ}
@@ -44,37 +44,37 @@ use Rattle.registers.specs.declared.Registers.{Registers}
 use Rattle.registers.proofs.Registers as R
 use Rattle.stepper.specs.Record.{afterwards, advanceOf}
 use Rattle.stepper.specs.declared.record.Advanced.{Advanced}
-use Rattle.stepper.specs.declared.record.Reached.{Reached}
+use Rattle.stepper.specs.declared.record.AdvancedCopy.{AdvancedCopy}
 use Rattle.stepper.proofs.RecordCell.{mach, Fit, typed, typed-answer, has, reads}
-use Rattle.stepper.proofs.record.Reached as T
-use Rattle.stepper.proofs.record.Reached.Laws as T′
+use Rattle.stepper.proofs.record.AdvancedCopy as T
+use Rattle.stepper.proofs.record.AdvancedCopy.Laws as T′
 use Rattle.stepper.proofs.record.Advanced as S
 use Rattle.stepper.proofs.record.Advanced.Laws as S′
-use Rattle.stepper.proofs.record.reach as reach
-use Rattle.stepper.proofs.record.reach.Symbol as reach-def
-use Rattle.stepper.proofs.record.reach.Symbol.{name as #stepper·record·reach}
-use Rattle.stepper.proofs.record.reach.Met as reach-thm
+use Rattle.stepper.proofs.record.advance_value as by-value
+use Rattle.stepper.proofs.record.advance_value.Symbol as by-value-def
+use Rattle.stepper.proofs.record.advance_value.Symbol.{name as #stepper·record·advance-value}
+use Rattle.stepper.proofs.record.advance_value.Met as by-value-thm
 use Rattle.stepper.proofs.record.advance.Key.{name as #stepper·record·advance}
 use Rattle.stepper.proofs.record.advance as advance
 use Rattle.stepper.proofs.record.advance.Statement as stated
 use Rattle.stepper.proofs.record.advance.Code as code
 
--- what is had at exit: the record's borrow; and of the memory's, which is given to `reach` for good, what says the last memory
+-- what is had at exit: the record's borrow; and of the memory's, which is given to `advance_value` for good, what says the last memory
 abbrev stayed : Stays (advance.ended .signature .params) (advance.ended .kept)
 stayed = (stay-ref (0 ∷ []) tt (plain (λ _. R.the-row)), (gave-slice (1 ∷ []) tt (plain (λ _. u8)), tt))
 
 -- the contract that the proof cites
-abbrev Reach : {M : Type 1} (𝓤 : URA M) (H : Heap 𝓤) (A : Atoms 𝓤) (mem : Memory → SProp 𝓤) (run : Routine → Fun 𝓤) → Contract 𝓤
-Reach 𝓤 H A mem run = tripleOf 𝓤 H A reach.signature (reach.spec 𝓤 H A mem run)
+abbrev ByValue : {M : Type 1} (𝓤 : URA M) (H : Heap 𝓤) (A : Atoms 𝓤) (mem : Memory → SProp 𝓤) (run : Routine → Fun 𝓤) → Contract 𝓤
+ByValue 𝓤 H A mem run = tripleOf 𝓤 H A by-value.signature (by-value.spec 𝓤 H A mem run)
 
--- the machine value of an answer, and what is known of the parts of what `reach` answers
+-- the machine value of an answer, and what is known of the parts of what `advance_value` answers
 abbrev mach-answer : Advanced → Val
 mach-answer = EL.val S.the-type S′.the-laws
 
 abbrev FitAnswer : Advanced → Type 0
 FitAnswer u = Is S.the-row u (mach-answer u ∷ [])
 
-parts : (t : Reached) (w : Val) → Is T.the-row t (w ∷ []) → Fit (t .registers) × FitAnswer (t .answer)
+parts : (t : AdvancedCopy) (w : Val) → Is T.the-row t (w ∷ []) → Fit (t .registers) × FitAnswer (t .answer)
 parts t w is = let fields = LL.owed T.the-type T′.the-laws t _ is in (fields .0, fields .1 .0)
 
 module _ {M : Type 1} (𝓤 : URA M) (H : Heap 𝓤) (A : Atoms 𝓤) (W : Given 𝓤 H A) (at-mem : Memory → SProp 𝓤) (run : Routine → Fun 𝓤) (κ κ′ : Lft) (bounds : AllOutlive 2 (advance.signature .outlives) (κ, (κ′, tt))) (q q′ : Share) (b o : ℕ) (γ : GName) (h : Registers) (b′ o′ : ℕ) (γ′ : GName) (ys : List ℕ) where
@@ -97,18 +97,18 @@ module _ {M : Type 1} (𝓤 : URA M) (H : Heap 𝓤) (A : Atoms 𝓤) (W : Given
   abbrev Post : Val → SProp 𝓤
   Post = walkOf 𝓤 H A advance.ended stayed (advance.clauses 𝓤 H A at-mem run) .post (((κ, (κ′, tt)), (q, (q′, tt)), bounds, a, vals), tt)
 
-  -- what `reach`'s triple binds outside: the memory's own lifetime, share and value
-  abbrev to-reach : Reach 𝓤 H A at-mem run .Ghost
-  to-reach = (((κ′, tt), (q′, tt), tt, (h, (x, tt)), (mach h ∷ [], (s ∷ [], tt))), tt)
+  -- what `advance_value`'s triple binds outside: the memory's own lifetime, share and value
+  abbrev to-value : ByValue 𝓤 H A at-mem run .Ghost
+  to-value = (((κ′, tt), (q′, tt), tt, (h, (x, tt)), (mach h ∷ [], (s ∷ [], tt))), tt)
 
-  -- what the memory owns, which with the registers' is what `reach` asks
+  -- what the memory owns, which with the registers' is what `advance_value` asks
   abbrev Mem : Fml
   Mem = owns (MutSlice (named 1) κ′ u8 ∷ []) (x, tt) (s ∷ [], tt)
 
-  asked : Fit h → ent 𝓤 (sep 𝓤 (sep 𝓤 (A .lft κ′ q′) (sem 𝓤 H A ftrue)) (sem 𝓤 H A Mem)) (Reach 𝓤 H A at-mem run .pre to-reach)
+  asked : Fit h → ent 𝓤 (sep 𝓤 (sep 𝓤 (A .lft κ′ q′) (sem 𝓤 H A ftrue)) (sem 𝓤 H A Mem)) (ByValue 𝓤 H A at-mem run .pre to-value)
   asked is = qed W ((‵ (flft κ′ q′) ⊛ ‵ ftrue) ∷ ‵ Mem ∷ []) ∵ move ! (1 ∷ []) $ has ! h is $ fjoin ! $ move ! (1 ∷ 0 ∷ []) $ join ! $ frame ! $ done !
 
-  exits : (t : Reached) (zs : List ℕ) → afterwards (t .answer) (t .registers) zs ≡ advanceOf h ys → length zs ≡ length ys → FitAnswer (t .answer)
+  exits : (t : AdvancedCopy) (zs : List ℕ) → afterwards (t .answer) (t .registers) zs ≡ advanceOf h ys → length zs ≡ length ys → FitAnswer (t .answer)
       → ent 𝓤 (⋆ 𝓤 H A (‵ (fobs γ (R.the-row .coded .code (t .registers))) ∷ ‵ (fbor κ (Body (mem R.the-row) b o γ)) ∷ ‵ (flft κ q) ∷ (‵ (flft κ′ q′) ⊛ ‵ ftrue) ∷ ‵ (finally u8 γ′ zs) ∷ [])) (Post (mach-answer (t .answer)))
   exits t zs e l is =
       qed W (‵ (fobs γ (R.the-row .coded .code (t .registers))) ∷ ‵ (fbor κ (Body (mem R.the-row) b o γ)) ∷ ‵ (flft κ q) ∷ (‵ (flft κ′ q′) ⊛ ‵ ftrue) ∷ ‵ (finally u8 γ′ zs) ∷ []) ∵
@@ -117,7 +117,7 @@ module _ {M : Type 1} (𝓤 : URA M) (H : Heap 𝓤) (A : Atoms 𝓤) (W : Given
       nothing ! $ move ! (2 ∷ 0 ∷ []) $ fjoin ! $ move ! (1 ∷ 0 ∷ []) $ fjoin ! $
       owned ! S.the-row (Is S.the-row) (EL.makes S.the-type S′.the-plain 𝓤 H A) (t .answer) _ is $ move ! (1 ∷ 0 ∷ []) $ done !
 
-  module _ (C : Calls 𝓤 H) (Λ : Loops 𝓤 H) (fm : FmC 𝓤 H (W .laws) C) (known : Triple 𝓤 (C #stepper·record·reach) (Reach 𝓤 H A at-mem run)) where
+  module _ (C : Calls 𝓤 H) (Λ : Loops 𝓤 H) (fm : FmC 𝓤 H (W .laws) C) (known : Triple 𝓤 (C #stepper·record·advance-value) (ByValue 𝓤 H A at-mem run)) where
     walk : Room u8 (length ys) → ent 𝓤 (onEntry 𝓤 H A advance.signature (κ, (κ′, tt)) (q, (q′, tt)) a vals) (WpFn 𝓤 H C Λ code.function (vptr b o ∷ s ∷ []) Post)
     walk room =
         qed W ((‵ (flft κ q) ⊛ ‵ (flft κ′ q′) ⊛ ‵ ftrue) ∷ ‵ (owns (MutRef (named 0) κ R.the-row ∷ MutSlice (named 1) κ′ u8 ∷ []) a vals) ∷ []) ∵ enter ! C Λ code.function (vptr b o ∷ s ∷ []) _ $
@@ -128,12 +128,12 @@ module _ {M : Type 1} (𝓤 : URA M) (H : Heap 𝓤) (A : Atoms 𝓤) (W : Given
         assigns ! (of-opd ! (load ! (from ! (hop ! (look ! 16 refl) (stop !))) (look-raw ! 0 refl))) (from ! (stop !)) (init ! 10 refl (typed 𝓤 H A W h is)) $
         assigns ! (addr ! (from ! (fld ! refl (hop ! (look-in ! 14 (sub ! 0 refl (whole !))) (stop !))))) (from ! (stop !)) (init ! 8 refl (tt, tt)) $
         assigns ! (agg ! (and-then ! (load ! (from ! (stop !)) (look ! 8 refl)) (and-then ! (load ! (from ! (fld ! refl (stop !))) (look-in ! 14 (sub ! 1 refl (whole !)))) (no-more !)))) (from ! (stop !)) (init ! 6 refl (tt, (tt, (record { fits = room .0 }, tt)))) $
-        -- `reach` is called, on the copy and the memory
-        move ! (4 ∷ 5 ∷ []) $ use2 W (raw (Reach 𝓤 H A at-mem run .pre to-reach)) (asked is) $
-        calls-at ! fm (Reach 𝓤 H A at-mem run) known to-reach (and-then ! (load ! (from ! (stop !)) (look ! 9 refl)) (and-then ! (load ! (from ! (stop !)) (look ! 5 refl)) (no-more !))) (λ w.
-        use1 W (later (some (λ (t : Reached). ((‵ (flft κ′ q′) ⊛ ‵ ftrue) ⊛ ‵ (T.the-row .own t (w ∷ []))) ⊛ raw (ensured 𝓤 H A reach.ended (reach.clauses 𝓤 H A at-mem run) (κ′, tt) (h, (x, tt)) tt t)))) (id⊢ 𝓤 _) $ await ! tt $ pick ! (λ t.
-        -- what `reach` ensures, at some last memory
-        split ! $ move ! (1 ∷ []) $ use1 W (some (λ (zs : Unit {0} × (List ℕ × Unit {0})). ‵ (lasts reach.ended (κ′, tt) (h, (x, tt)) zs) ⊛ raw (fact 𝓤 (afterwards (t .answer) (t .registers) (zs .1 .0) ≡ advanceOf h ys)))) (id⊢ 𝓤 _) $ pick ! (λ zs.
+        -- `advance_value` is called, on the copy and the memory
+        move ! (4 ∷ 5 ∷ []) $ use2 W (raw (ByValue 𝓤 H A at-mem run .pre to-value)) (asked is) $
+        calls-at ! fm (ByValue 𝓤 H A at-mem run) known to-value (and-then ! (load ! (from ! (stop !)) (look ! 9 refl)) (and-then ! (load ! (from ! (stop !)) (look ! 5 refl)) (no-more !))) (λ w.
+        use1 W (later (some (λ (t : AdvancedCopy). ((‵ (flft κ′ q′) ⊛ ‵ ftrue) ⊛ ‵ (T.the-row .own t (w ∷ []))) ⊛ raw (ensured 𝓤 H A by-value.ended (by-value.clauses 𝓤 H A at-mem run) (κ′, tt) (h, (x, tt)) tt t)))) (id⊢ 𝓤 _) $ await ! tt $ pick ! (λ t.
+        -- what `advance_value` ensures, at some last memory
+        split ! $ move ! (1 ∷ []) $ use1 W (some (λ (zs : Unit {0} × (List ℕ × Unit {0})). ‵ (lasts by-value.ended (κ′, tt) (h, (x, tt)) zs) ⊛ raw (fact 𝓤 (afterwards (t .answer) (t .registers) (zs .1 .0) ≡ advanceOf h ys)))) (id⊢ 𝓤 _) $ pick ! (λ zs.
         split ! $ move ! (1 ∷ []) $ heard ! (afterwards (t .answer) (t .registers) (zs .1 .0) ≡ advanceOf h ys) (λ e. fsplit ! $ drop ! $ fsplit ! $ fsplit ! $ move ! (1 ∷ []) $ feqL ! (λ l.
         move ! (2 ∷ []) $ split ! $ move ! (1 ∷ []) $ facts ! T.the-row (Is T.the-row) (shows 𝓤 H A T.the-row) t (w ∷ []) (λ made.
         land ! (from ! (stop !)) (init ! 13 refl (LL.lawful T.the-type T′.the-laws 𝓤 H A W .typed t _ made .0)) $ rewrite ! 13 (λ (v : Val). ‵ (fat fullShare T′.mir l₃ 0 v)) (ap only (LL.tells T.the-type T′.the-laws t _ made)) refl $
@@ -147,12 +147,12 @@ module _ {M : Type 1} (𝓤 : URA M) (H : Heap 𝓤) (A : Atoms 𝓤) (W : Given
         keep ! (0 ∷ 1 ∷ 2 ∷ 3 ∷ 4 ∷ []) $ by ! (exits t (zs .1 .0) e l (parts t w made .1)))))))))))))))))
 
 module _ {M : Type 1} (𝓤 : URA M) (H : Heap 𝓤) (A : Atoms 𝓤) (W : Given 𝓤 H A) (mem : Memory → SProp 𝓤) (run : Routine → Fun 𝓤) where
-  advance-walks : (C : Calls 𝓤 H) (Λ : Loops 𝓤 H) → FmC 𝓤 H (W .laws) C → Triple 𝓤 (C #stepper·record·reach) (Reach 𝓤 H A mem run) → Walks 𝓤 H A advance.ended stayed (WpFn 𝓤 H C Λ code.function) (advance.clauses 𝓤 H A mem run)
+  advance-walks : (C : Calls 𝓤 H) (Λ : Loops 𝓤 H) → FmC 𝓤 H (W .laws) C → Triple 𝓤 (C #stepper·record·advance-value) (ByValue 𝓤 H A mem run) → Walks 𝓤 H A advance.ended stayed (WpFn 𝓤 H C Λ code.function) (advance.clauses 𝓤 H A mem run)
   advance-walks C Λ fm known = walked 𝓤 H A advance.ended stayed (advance.clauses 𝓤 H A mem run) (WpFn 𝓤 H C Λ code.function) (λ κs. (ptr-vals, (slice-vals, tt))) (λ κs. (mut-tells (named 0) (κs .0) R.the-row, (mut-slice-tells (named 1) (κs .1 .0) u8, tt)))
       (λ κs qs bounds a g are. via 𝓤 _ (fst∗ 𝓤 _ (emp 𝓤))
       (walk 𝓤 H A W mem run (κs .0) (κs .1 .0) bounds (qs .0) (qs .1 .0) (a .0 .ptr .0) (a .0 .ptr .1) (a .0 .name) (a .0 .now) (a .1 .0 .ptr .0) (a .1 .0 .ptr .1) (a .1 .0 .name) (a .1 .0 .now) C Λ fm known (are .1 .0 .0 .1)))
 
-advance-meets : {M : Type 1} (𝓤 : URA M) (H : Heap 𝓤) (A : Atoms 𝓤) → Given 𝓤 H A → (mem : Memory → SProp 𝓤) (run : Routine → Fun 𝓤) (𝓣 : Tables 𝓤 H) → Triple 𝓤 (𝓣 .C #stepper·record·reach) (Reach 𝓤 H A mem run)
+advance-meets : {M : Type 1} (𝓤 : URA M) (H : Heap 𝓤) (A : Atoms 𝓤) → Given 𝓤 H A → (mem : Memory → SProp 𝓤) (run : Routine → Fun 𝓤) (𝓣 : Tables 𝓤 H) → Triple 𝓤 (𝓣 .C #stepper·record·advance-value) (ByValue 𝓤 H A mem run)
     → Meets 𝓤 H A advance.signature (WpFn 𝓤 H (𝓣 .C) (𝓣 .Λ) code.function) (advance.spec 𝓤 H A mem run)
 advance-meets 𝓤 H A W mem run 𝓣 known =
     walk-meets 𝓤 H A advance.ended stayed W (goes-ref 𝓤 H A W 2 0 tt (plain (λ _. R.the-row)), (goes-gave-slice 𝓤 H A W 2 1 tt (plain (λ _. u8)), tt)) (advance.clauses 𝓤 H A mem run)
@@ -164,4 +164,4 @@ advance-spec 𝓤 H 𝓜 𝓖 𝓡 =
     entered 𝓤 H (tripleOf 𝓤 H (𝓖 .A) advance.signature (advance.spec 𝓤 H (𝓖 .A) (𝓜 .mem) (𝓡 .run)))
     (tables 𝓤 H 𝓜 𝓡 code.env .C) (tables 𝓤 H 𝓜 𝓡 code.env .Λ) #stepper·record·advance code.function (code.unfolded 𝓤 H 𝓜 𝓡)
     (advance-meets 𝓤 H (𝓖 .A) (givenOf 𝓤 H 𝓜 𝓖) (𝓜 .mem) (𝓡 .run) (tablesOf 𝓤 H 𝓜 (tables 𝓤 H 𝓜 𝓡 code.env))
-    (cited 𝓤 H (Reach 𝓤 H (𝓖 .A) (𝓜 .mem) (𝓡 .run)) 𝓜 𝓡 code.env #stepper·record·reach reach-def.routine code.calls-stepper·record·reach (reach-thm.met 𝓤 H 𝓜 𝓖 𝓡)))
+    (cited 𝓤 H (ByValue 𝓤 H (𝓖 .A) (𝓜 .mem) (𝓡 .run)) 𝓜 𝓡 code.env #stepper·record·advance-value by-value-def.routine code.calls-stepper·record·advance-value (by-value-thm.met 𝓤 H 𝓜 𝓖 𝓡)))

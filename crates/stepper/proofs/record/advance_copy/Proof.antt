@@ -46,10 +46,10 @@ use Rattle.registers.proofs.Registers as R
 use Rattle.registers.proofs.Registers.Laws as R′
 use Rattle.stepper.specs.Record.{afterwards, advanceOf}
 use Rattle.stepper.specs.declared.record.Advanced.{Advanced}
-use Rattle.stepper.specs.declared.record.Reached.{Reached}
+use Rattle.stepper.specs.declared.record.AdvancedCopy.{AdvancedCopy}
 use Rattle.stepper.proofs.RecordCell.{mach, Fit, typed, typed-answer, has, to-lend, from-loan}
-use Rattle.stepper.proofs.record.Reached as T
-use Rattle.stepper.proofs.record.Reached.Laws as T′
+use Rattle.stepper.proofs.record.AdvancedCopy as T
+use Rattle.stepper.proofs.record.AdvancedCopy.Laws as T′
 use Rattle.stepper.proofs.record.Advanced as S
 use Rattle.stepper.proofs.record.advance as advance
 use Rattle.stepper.proofs.record.advance.Symbol as advance-def
@@ -69,7 +69,7 @@ abbrev Advance : {M : Type 1} (𝓤 : URA M) (H : Heap 𝓤) (A : Atoms 𝓤) (m
 Advance 𝓤 H A mem run = tripleOf 𝓤 H A advance.signature (advance.spec 𝓤 H A mem run)
 
 -- registers and an answer put together, and that the struct of their machine values is the machine value of that
-abbrev both : Registers → Advanced → Reached
+abbrev both : Registers → Advanced → AdvancedCopy
 both r u = record { registers = r; answer = u }
 
 abbrev pair : Registers → Val → Val

@@ -1,6 +1,6 @@
 -- What a step comes to, by what the code finds at PC.
 -- Assumes nothing.
-use mathlib.Core.Path.{_≡_, refl, sym, ap, _∙_}
+use mathlib.Core.Path.{_≡_, sym, ap, _∙_}
 use mathlib.Core.Bool.{Bool, true, false}
 use mathlib.Core.List.{List}
 use Prim.Native.Nat.{ℕ, _/_, _%_, _<_}
@@ -10,7 +10,6 @@ use borrow.Author.Tests.{eq-eqb, ne-eqb}
 use Rattle.registers.proofs.Wrap.{plus-zero, plus-plus}
 use Rattle.registers.specs.Word.{wrappingAdd}
 use Rattle.registers.specs.Registers.{withPc}
-use Rattle.registers.specs.declared.Cycles.{Cycles}
 use Rattle.registers.specs.declared.Registers.{Registers}
 use Rattle.memory.specs.Memory.{byteAt, applied}
 use Rattle.opcodes.proofs.Fits.{fitting}
@@ -29,11 +28,12 @@ use Rattle.opcodes.specs.declared.instruction.Operand.{Operand}
 use Rattle.opcodes.specs.declared.instruction.Decoded.the-variants.{Instruction}
 use Rattle.instructions.specs.Effect.{Effect, effectOf}
 use Rattle.instructions.specs.inner.Sited.{operandFrom, Executed, Waiting}
-use Rattle.stepper.specs.Answer.{done, refused}
-use Rattle.stepper.specs.Step.{fetched, carriedOut, didOf, stepOf, After}
-use Rattle.stepper.specs.Advance.{stepped}
+use Rattle.stepper.specs.Answer.{refused}
+use Rattle.stepper.specs.Step.{fetched, carriedOut, didOf, stepOf}
+use Rattle.stepper.specs.inner.Until.{afterDone}
 
-pub unfit : (r : Registers) (m : List ℕ) → (length m ≡ 65536 → ⊥) → stepOf r m ≡ record { answer = refused 21 0; memory = m }
+pub unfit : (r : Registers) (m : List ℕ) → (length m ≡ 65536 → ⊥)
+    → stepOf r m ≡ record { answer = refused 21 0; memory = m }
 unfolding stepOf didOf
 unfit r m n = simp (ne-eqb _ _ n)
 
@@ -83,18 +83,9 @@ module _ {r : Registers} {m : List ℕ} {p s e : ℕ} (h : Here r m p s e) where
   unfolding stepOf didOf carriedOut
   held t = simp (eq-eqb _ _ (h .whole), place r m (h .low), says .0, decoded, says .2, t)
 
-  carried : waitsHere ≡ false → stepOf r m ≡ stepped (effect .regs) (e % 256) (applied (effect .stores) m)
+  carried : waitsHere ≡ false → stepOf r m ≡ afterDone (effect .regs) (e % 256) (applied (effect .stores) m)
   unfolding stepOf didOf carriedOut effect
   carried t = simp (eq-eqb _ _ (h .whole), place r m (h .low), says .0, decoded, says .2, t)
-
-  cycles-by : (b : Bool) → waitsHere ≡ b → {q : Registers} {k : Cycles} → stepOf r m .answer ≡ done q k → k .0 ≡ e % 256
-  cycles-by true t s =
-      let w = ap (λ (x : After). x .answer) (held t) in let z : _≡_ {A = ℕ} 0 1 = cc in absurd (omega (arith, z))
-  cycles-by false t s = let w = ap (λ (x : After). x .answer) (carried t) in ap (λ (x : Cycles). x .0) (cc)
-
-  -- a step that is done takes the table's cycles
-  pub own-cycles : (q : Registers) (k : Cycles) → stepOf r m .answer ≡ done q k → k .0 ≡ e % 256
-  own-cycles q k s = cycles-by waitsHere refl s
 
   -- n is a number of the action, and the code says whether it waits
   module _ (n : ℕ) (action : actionOf n ≡ actionAt p) {b : Bool} (w : Waiting (actionOf n) b) where
@@ -104,18 +95,18 @@ module _ {r : Registers} {m : List ℕ} {p s e : ℕ} (h : Here r m p s e) where
     pub waiting : b ≡ true → stepOf r m ≡ record { answer = refused 23 (r .pc); memory = m }
     waiting t = held (waits-here ∙ t)
 
-    pub done-here : b ≡ false → stepOf r m ≡ stepped (effect .regs) (e % 256) (applied (effect .stores) m)
+    pub done-here : b ≡ false → stepOf r m ≡ afterDone (effect .regs) (e % 256) (applied (effect .stores) m)
     done-here t = carried (waits-here ∙ t)
 
     -- k is a number of the mode, and the code executes the two from these registers v
     pub executes : b ≡ false → (k : ℕ) → modeOf k ≡ modeAt p → {from next : ℕ} {v q : Registers} {m′ : List ℕ}
         → from ≡ wrappingAdd (r .pc) s → next ≡ wrappingAdd (r .pc) (e / 256) → v ≡ withPc r next
-        → Executed (effectOf (actionOf n) (operandFrom (modeOf k) from m) v m) q m m′ → stepOf r m ≡ stepped q (e % 256) m′
+        → Executed (effectOf (actionOf n) (operandFrom (modeOf k) from m) v m) q m m′ → stepOf r m ≡ afterDone q (e % 256) m′
     unfolding effect
     executes t k mode {from} {next} {v} {q} {m′} ef en ev x =
         let y : Executed effect q m m′ = rw (action, mode, ef, ev, en) at x in
-        done-here t ∙ ap (λ (z : Registers). stepped z (e % 256) (applied (effect .stores) m)) (sym (y .0))
-        ∙ ap (λ (z : List ℕ). stepped q (e % 256) z) (sym (y .1))
+        done-here t ∙ ap (λ (z : Registers). afterDone z (e % 256) (applied (effect .stores) m)) (sym (y .0))
+        ∙ ap (λ (z : List ℕ). afterDone q (e % 256) z) (sym (y .1))
 
 pub fit : (p n k : ℕ) → actionOf n ≡ actionAt p → modeOf k ≡ modeAt p → fits (actionOf n) (modeOf k) ≡ true
 fit p n k action mode = rw (action, mode) (fitting p)

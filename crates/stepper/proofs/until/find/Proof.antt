@@ -1,8 +1,8 @@
 -- `find` meets its contract: the place by the two bytes read at PC.
 -- Assumes nothing.
 use borrow.Author.Needs.{needs}
-use Rattle.stepper.proofs.advance.find.Statement.{statement}
-use Rattle.stepper.proofs.advance.find.Tie as tie
+use Rattle.stepper.proofs.until.find.Statement.{statement}
+use Rattle.stepper.proofs.until.find.Tie as tie
 
 byte-at-requires : tie.Need-byte-at-requires
 byte-at-requires c κs = search needs

@@ -1,4 +1,4 @@
--- `go` meets its contract. The invariant of its loop: memory is as long as it was, PC fits 16 bits, and the run from here with the budget left
+-- `run_until` meets its contract. The invariant of its loop: memory is as long as it was, PC fits 16 bits, and the run from here with the budget left
 -- comes to what the run from the call does. The measure is the budget left, which each instruction lessens.
 -- Assumes nothing.
 use borrow.Author.Needs.{needs}
@@ -8,19 +8,19 @@ use lib.ListN.{length}
 use Prim.Native.Nat.{_<_, _%_}
 use Rattle.opcodes.proofs.Says.{in-tables}
 use Rattle.stepper.specs.Step.{stepOf}
-use Rattle.stepper.specs.Advance.{stepped}
+use Rattle.stepper.specs.inner.Until.{afterDone}
 use Rattle.dispatch.proofs.Waiting.{executable}
-use Rattle.stepper.proofs.Next.{Here, nowhere, length-word, waiting, done-here, executes, fit}
-use Rattle.stepper.proofs.Turn.{told}
-use Rattle.stepper.proofs.Loop.{Reached, begun, stopped, uncovered, cost, homed, again}
-use Rattle.stepper.proofs.advance.go.Statement.{statement}
-use Rattle.stepper.proofs.advance.go.Tie as tie
+use Rattle.stepper.proofs.ByFound.{Here, nowhere, length-word, waiting, done-here, executes, fit}
+use Rattle.stepper.proofs.LoopTurn.{told}
+use Rattle.stepper.proofs.LoopInvariant.{CameTo, begun, stopped, uncovered, cost, finished, again}
+use Rattle.stepper.proofs.until.run_until.Statement.{statement}
+use Rattle.stepper.proofs.until.run_until.Tie as tie
 
 abbrev Inv-loop : tie.InvT-loop
-Inv-loop mem₀ budget tc ta tm q₀ left₀ mem q left = (length mem ≡ length mem₀) × (q .pc < 65536) × Reached budget q₀ mem₀ left q mem
+Inv-loop mem₀ budget last tc ta tm q₀ left₀ mem q left = (length mem ≡ length mem₀) × (q .pc < 65536) × CameTo last budget q₀ mem₀ left q mem
 
 abbrev μ-loop : tie.MeasureT-loop
-μ-loop mem₀ budget tc ta tm q₀ left₀ mem q left = left
+μ-loop mem₀ budget last tc ta tm q₀ left₀ mem q left = left
 
 -- from a point of the loop back to the call, to the turn's begin, to the place that was found, and past the budget's test to that of the number
 abbrev called : tie.At-loop Inv-loop μ-loop → tie.Start Inv-loop μ-loop
@@ -48,7 +48,7 @@ here c = record { whole = whole (turn c); low = turn c .loop .inv .1; found = sy
 -- the turn's step, from what `execute` ensures
 executed : (c : tie.After-execute Inv-loop μ-loop)
     → let l = turn (placed (waited c)) .loop in let e = placed (waited c) .place .given .0 .1 .1 .0 in
-    stepOf (l .q) (l .mem) ≡ stepped (c .execute .result) (e % 256) (c .execute .last .1 .1 .1 .1 .0)
+    stepOf (l .q) (l .mem) ≡ afterDone (c .execute .result) (e % 256) (c .execute .last .1 .1 .1 .1 .0)
 executed c =
     let w = waited c in
     let n = w .before .number-at in
@@ -59,13 +59,13 @@ executed c =
 
 loop-holds : tie.Need-loop-holds Inv-loop μ-loop
 loop-holds c =
-    let z = c .before .before .before .before .args in (refl, omega arith, begun (z .budget) (z .r) (z .mem .now))
+    let z = c .before .before .before .before .args in (refl, omega arith, begun (z .last) (z .budget) (z .r) (z .mem .now))
 
 find-requires : tie.Need-find-requires Inv-loop μ-loop
 find-requires c κs = (whole (c .before .before), c .before .before .before .before .before .costs .ensures)
 
-sub-t21 : tie.Need-sub-t21 Inv-loop μ-loop
-sub-t21 c = c .before .before .before .before .before .loop .inv .2 .within
+sub-t22 : tie.Need-sub-t22 Inv-loop μ-loop
+sub-t22 c = c .before .before .before .before .before .loop .inv .2 .within
 
 same-length : tie.Need-same-length Inv-loop μ-loop
 same-length c = c .before .before .before .before .before .loop .inv .0
@@ -91,8 +91,8 @@ returns-2 c =
     let n = w .before .number-at in
     told (stopped (turn (placed w) .loop .inv .2) (waiting (here (placed w)) (n .result) (n .ensures) (w .waits .ensures) (c .if1 .taken)))
 
-sub-t30 : tie.Need-sub-t30 Inv-loop μ-loop
-sub-t30 c = turn (placed (c .before .before)) .loop .inv .2 .within
+sub-t29 : tie.Need-sub-t29 Inv-loop μ-loop
+sub-t29 c = turn (placed (c .before .before)) .loop .inv .2 .within
 
 same-length-3 : tie.Need-same-length-3 Inv-loop μ-loop
 same-length-3 c = turn (placed (c .before .before)) .loop .inv .0
@@ -124,8 +124,8 @@ execute-requires c κs =
       ),
     )
 
-sub-t41 : tie.Need-sub-t41 Inv-loop μ-loop
-sub-t41 c =
+sub-t40 : tie.Need-sub-t40 Inv-loop μ-loop
+sub-t40 c =
     let i = turn (placed (waited (c .before .before .before .before))) .loop .inv .2 in omega (arith, i .within)
 
 same-length-4 : tie.Need-same-length-4 Inv-loop μ-loop
@@ -135,7 +135,7 @@ same-length-4 c =
 returns-4 : tie.Need-returns-4 Inv-loop μ-loop
 returns-4 c =
     let x = c .before .before .before .before in
-    told (homed (turn (placed (waited x)) .loop .inv .2) (executed x) (passed x .if2 .left) (c .if3 .taken))
+    told (finished (turn (placed (waited x)) .loop .inv .2) (executed x) (passed x .if2 .left) (c .if3 .taken))
 
 loop-less : tie.Need-loop-less Inv-loop μ-loop
 loop-less c =
@@ -146,10 +146,10 @@ loop-again : tie.Need-loop-again Inv-loop μ-loop
 loop-again c =
     let x = c .before .before .before .before in
     let l = turn (placed (waited x)) .loop in
-    (x .execute .kept .1 .1 .1 .1 .0 ∙ l .inv .0, omega arith, again (l .inv .2) (executed x) (passed x .if2 .left) (c .if3 .left))
+    (x .execute .kept .1 .1 .1 .1 .0 ∙ l .inv .0, omega arith, again (l .inv .2) (executed x) (passed x .if2 .left) (omega arith) (c .if3 .left))
 
-pub go-spec : {M : Type 1} → statement M
-go-spec =
+pub run-until-spec : {M : Type 1} → statement M
+run-until-spec =
     tie.close
     (tie.spec
     Inv-loop
@@ -160,7 +160,7 @@ go-spec =
     loop-holds
     find-requires
     (search needs)
-    sub-t21
+    sub-t22
     same-length
     returns
     (search needs)
@@ -169,7 +169,7 @@ go-spec =
     sub-t26
     same-length-2
     returns-2
-    sub-t30
+    sub-t29
     same-length-3
     returns-3
     mode-number-at-requires
@@ -178,7 +178,7 @@ go-spec =
     (search needs)
     (search needs)
     execute-requires
-    sub-t41
+    sub-t40
     same-length-4
     returns-4
     loop-less

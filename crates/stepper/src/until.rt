@@ -1,15 +1,13 @@
-// The loop that a step and a run share. A turn finds the next instruction and decides there whether it is refused, passes the budget or is done:
-// an enum that held the registers would go through memory at every turn.
+// The loop that a step and a run share: a step is one turn of it. A turn finds the next instruction and decides there
+// whether it is refused, passes the budget or is done: a function for a turn, whose answer held the registers, would send
+// them through memory at every turn.
 ghost use mathlib.Core.Path.{_≡_};
 ghost use lib.ListN.{length};
 ghost use Rattle.registers.specs.Word.{wrappingAdd};
 ghost use Rattle.memory.specs.Memory.{byteAt};
 ghost use Rattle.opcodes.specs.Tables.{costs};
 ghost use Rattle.opcodes.specs.inner.Lookup.{foundOf};
-ghost use Rattle.stepper.specs.Answer.{ranOf};
-ghost use Rattle.stepper.specs.Advance.{goOf};
-use crate::answer::Ran;
-use crate::answer::Refusal;
+ghost use Rattle.stepper.specs.inner.Until.{endedOf, untilOf};
 use dispatch::execute;
 use dispatch::waits;
 use memory::byte_at;
@@ -24,8 +22,16 @@ use registers::Cycles;
 use registers::Registers;
 use registers::word::wrapping_add;
 
+// How the loop ends, with the registers reached and the cycles spent. A refusal is its number: its place, which is PC,
+// would cost the loop a register.
+pub enum Ended {
+    Arrived(Registers, Cycles),
+    Spent(Registers, Cycles),
+    Refused(Registers, Cycles, u8),
+}
+
 // The place of the opcode at PC.
-pub fn find(mem: &[u8], pc: u16, tc: &[u16; 1024]) -> Found
+fn find(mem: &[u8], pc: u16, tc: &[u16; 1024]) -> Found
     requires { ⌜ length (now mem) ≡ 65536 ⌝ }
     requires { ⌜ now tc ≡ costs ⌝ }
     ensures { λ q. ⌜ q ≡ foundOf (byteAt (now (mem .entry)) pc) (byteAt (now (mem .entry)) (wrappingAdd pc 1)) ⌝ }
@@ -33,10 +39,12 @@ pub fn find(mem: &[u8], pc: u16, tc: &[u16; 1024]) -> Found
     found_of(byte_at(mem, pc), byte_at(mem, wrapping_add(pc, 1)), tc)
 }
 
-// The next instruction, wherever it stands, and those after it until home.
-pub fn go(r: Registers, mem: &mut [u8], budget: u32) -> Ran
+// The next instruction, wherever it stands, and those after it until PC is `last` or below: 0 is home, and 65,535 is any
+// address, so that one instruction ends the loop.
+pub fn run_until(r: Registers, mem: &mut [u8], budget: u32, last: u16) -> Ended
     requires { ⌜ length (now mem) ≡ 65536 ⌝ }
-    ensures { λ q. ⌜ (ranOf q ≡ goOf r (now (mem .entry)) budget .answer) × (now (mem .exit) ≡ goOf r (now (mem .entry)) budget .memory) ⌝ }
+    ensures { λ q. ⌜ (endedOf q ≡ untilOf last r (now (mem .entry)) budget .answer)
+        × (now (mem .exit) ≡ untilOf last r (now (mem .entry)) budget .memory) ⌝ }
 {
     let tc = costs();
     let ta = actions();
@@ -47,7 +55,7 @@ pub fn go(r: Registers, mem: &mut [u8], budget: u32) -> Ran
         let pc = q.pc;
         match find(mem, pc, &tc) {
             Found::Nothing => {
-                return Ran::Refused(q, Cycles(budget - left), Refusal::NoInstruction(pc));
+                return Ended::Refused(q, Cycles(budget - left), 22);
             }
             Found::At {
                 place,
@@ -56,11 +64,11 @@ pub fn go(r: Registers, mem: &mut [u8], budget: u32) -> Ran
             } => {
                 let n = number_at(place, &ta);
                 if waits(n) {
-                    return Ran::Refused(q, Cycles(budget - left), Refusal::Waits(pc));
+                    return Ended::Refused(q, Cycles(budget - left), 23);
                 }
                 let k = e % 256;
                 if left < k {
-                    return Ran::Spent(q, Cycles(budget - left));
+                    return Ended::Spent(q, Cycles(budget - left));
                 }
                 q = execute(
                     n,
@@ -70,8 +78,8 @@ pub fn go(r: Registers, mem: &mut [u8], budget: u32) -> Ran
                     mem,
                 );
                 left = left - k;
-                if q.pc == 0 {
-                    return Ran::Home(q, Cycles(budget - left));
+                if q.pc <= last {
+                    return Ended::Arrived(q, Cycles(budget - left));
                 }
             }
         }
