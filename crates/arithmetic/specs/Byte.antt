@@ -38,6 +38,8 @@ tstOf m f = withNzvc f (bit 7 m) (eqb m 0) false false
 abbrev pub shifted8 : ℕ → Bool → Flags → Result
 shifted8 r c f = result r (withNzvc f (bit 7 r) (eqb r 0) (xor (bit 7 r) c) c)
 
+-- what makes a byte of the byte m. Of memory: NEG COM LSR ROR ASR ASL LSL ROL DEC INC CLR; of A: NEGA COMA LSRA RORA
+-- ASRA ASLA LSLA ROLA DECA INCA CLRA; of B: NEGB COMB LSRB RORB ASRB ASLB LSLB ROLB DECB INCB CLRB
 abbrev pub unaryOf : Unary → ℕ → Flags → Result
 unaryOf Neg m f = let r = (256 - m) % 256 in result r (withNzvc f (bit 7 r) (eqb r 0) (eqb r 0x80) (not (eqb r 0)))
 unaryOf Com m f = let r = 255 - m in result r (withNzvc f (bit 7 r) (eqb r 0) false true)
@@ -53,7 +55,8 @@ unaryOf Clr m f = result 0 (withNzvc f false true false false)
 abbrev pub logical : ℕ → Flags → Result
 logical r f = result r (logic8Of r f)
 
--- the accumulator x, the operand byte m: what the accumulator becomes. CMP and BIT leave it
+-- what the accumulator x becomes by the operand byte m. SUBA CMPA SBCA ANDA BITA LDAA EORA ADCA ORAA ADDA; SUBB CMPB SBCB
+-- ANDB BITB LDAB EORB ADCB ORAB ADDB. CMP and BIT leave it
 abbrev pub binaryOf : Binary → ℕ → ℕ → Flags → Result
 binaryOf Sub x m f = sub8Of x m false f
 binaryOf Cmp x m f = result x (sub8Of x m false f .flags)

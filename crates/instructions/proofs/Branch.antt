@@ -12,7 +12,7 @@ use Rattle.registers.specs.Flags.{bit, flagsOf}
 use Rattle.registers.specs.Registers.{dataOf, withPc}
 use Rattle.registers.specs.declared.Registers.{Registers}
 use Rattle.opcodes.proofs.Truth.{truth}
-use Rattle.opcodes.specs.Conditions.{index, truthWords, holdsOf}
+use Rattle.opcodes.specs.Conditions.{truthIndex, truthWords, holdsOf}
 use Rattle.instructions.specs.Form.{targetIn, branchForm}
 use Rattle.instructions.specs.Entry.{formOf, outcomeOf}
 use Rattle.opcodes.specs.declared.instruction.Action.the-variants.{Branch}
@@ -34,7 +34,7 @@ branched : (k : ℕ) (o : Operand) (r : Registers) (m : List ℕ)
 unfolding effectOf formOf outcomeOf holdsOf
 branched k o r m =
     let f = flagsOf (r .flags) in
-    let held : ℕ → Bool = λ j. bit (index f) (getD truthWords j 0) in
+    let held : ℕ → Bool = λ j. bit (truthIndex f) (getD truthWords j 0) in
     by-form (k % 16) (targetIn o (r .pc)) (held (k % 16)) r m (λ e. ap held e ∙ truth 0 (omega arith) f) (λ e. ap held e ∙ truth 1 (omega arith) f)
 
 pub goes : (k t : ℕ) (r q : Registers) → q ≡ withPc r (cond (holdsOf k (flagsOf (r .flags))) t (r .pc)) → GoesTo (Branch k) t r q

@@ -3,7 +3,7 @@
 use mathlib.Core.List.{List}
 use Prim.Native.Nat.{ℕ}
 use Rattle.registers.specs.declared.Registers.{Registers}
-use Rattle.memory.specs.Memory.{withWord, withPushed}
+use Rattle.memory.specs.inner.Stored.{withStored, withPushed}
 use Rattle.instructions.specs.Entry.{formOf, readsOf, outcomeOf}
 use Rattle.opcodes.specs.declared.instruction.Action.{Action}
 use Rattle.opcodes.specs.declared.instruction.Operand.{Operand}
@@ -11,5 +11,5 @@ use Rattle.instructions.specs.Operand.{operandAddress, inputOf}
 use Rattle.instructions.specs.Effect.{Effect, effectBy, effectOf}
 
 unfoldable pub opened : Action → Operand → Registers → List ℕ → Effect
-unfolding withWord withPushed formOf operandAddress readsOf inputOf outcomeOf effectBy effectOf
+unfolding withStored withPushed formOf operandAddress readsOf inputOf outcomeOf effectBy effectOf
 opened a o r m = effectOf a o r m

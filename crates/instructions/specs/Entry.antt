@@ -14,10 +14,10 @@ use Rattle.arithmetic.specs.Byte.{unaryOf, binaryOf, bsetOf, bclrOf, tstOf}
 use Rattle.arithmetic.specs.Word.{add16Of, sub16Of, logic16Of}
 use Rattle.instructions.specs.declared.form.Form.{Form}
 use Rattle.instructions.specs.declared.form.Form.the-variants.{Computes, StoresByte, StoresWord, PushesByte, PushesWord, PullsByte, PullsWord, Reserves, Releases, Branches, Jumps, Calls, Returns, MovesSp, Interrupts, Resumes, Waits}
-use Rattle.instructions.specs.Form.{plain, at, to, branchForm, loadForm}
+use Rattle.instructions.specs.Form.{always, atOperand, toTarget, branchForm, loadForm}
 use Rattle.instructions.specs.Operand.{Reads, nothing, operandByte, operandWord, pulledByte, pulledWord}
 use Rattle.instructions.specs.Inherent.{codes, toD, inherentOf}
-use Rattle.instructions.specs.Named.{accumulatorOf, withAccumulator, toAccumulator, indexOf, withIndex, wordRegisterOf, toWord}
+use Rattle.instructions.specs.Named.{accumulatorOf, withAccumulator, toAccumulator, indexRegisterOf, withIndex, wordRegisterOf, toWord}
 use Rattle.instructions.specs.Outcome.{Outcome, computes, gives, branches, stays, tested8, tested16, modifies, allSet, noneSet}
 
 -- what is read; the form, by the operand and the address after the instruction; and what is computed of the mask k of a
@@ -33,77 +33,77 @@ entry reads form outcome = record { reads = reads; form = form; outcome = outcom
 unfoldable pub entryOf : Action → Entry
 -- NOP IDIV FDIV LSRD ASLD LSLD TAP TPA INX DEX INY DEY CLV SEV CLC SEC CLI SEI SBA CBA TAB TBA DAA ABA TSX TSY ABX ABY
 -- MUL XGDX XGDY: on the registers alone
-entryOf (Inherent i) = entry nothing (plain Computes) (λ k v sp d. computes (inherentOf i sp d))
+entryOf (Inherent i) = entry nothing (always Computes) (λ k v sp d. computes (inherentOf i sp d))
 -- NEGA COMA LSRA RORA ASRA ASLA LSLA ROLA DECA INCA CLRA, NEGB COMB LSRB RORB ASRB ASLB LSLB ROLB DECB INCB CLRB
 entryOf (Unary u c) =
-    entry nothing (plain Computes) (λ k v sp d. computes (toAccumulator c d (unaryOf u (accumulatorOf c d) (codes d))))
+    entry nothing (always Computes) (λ k v sp d. computes (toAccumulator c d (unaryOf u (accumulatorOf c d) (codes d))))
 -- TSTA TSTB
 entryOf (TstAccumulator c) =
-    entry nothing (plain Computes) (λ k v sp d. computes (withFlags d (byteOf (tstOf (accumulatorOf c d) (codes d)))))
+    entry nothing (always Computes) (λ k v sp d. computes (withFlags d (byteOf (tstOf (accumulatorOf c d) (codes d)))))
 -- SUBA CMPA SBCA ANDA BITA LDAA EORA ADCA ORAA ADDA, SUBB CMPB SBCB ANDB BITB LDAB EORB ADCB ORAB ADDB
 entryOf (Binary b c) =
-    entry operandByte (plain Computes) (λ k v sp d. computes (toAccumulator c d (binaryOf b (accumulatorOf c d) v (codes d))))
+    entry operandByte (always Computes) (λ k v sp d. computes (toAccumulator c d (binaryOf b (accumulatorOf c d) v (codes d))))
 -- TST
-entryOf TstMemory = entry operandByte (plain Computes) (λ k v sp d. computes (withFlags d (byteOf (tstOf v (codes d)))))
+entryOf TstMemory = entry operandByte (always Computes) (λ k v sp d. computes (withFlags d (byteOf (tstOf v (codes d)))))
 -- LDD LDX LDY LDS
 entryOf (LoadWord w) =
-    entry operandWord (plain (loadForm w)) (λ k v sp d. gives v (toWord w d v (byteOf (logic16Of v (codes d)))))
+    entry operandWord (always (loadForm w)) (λ k v sp d. gives v (toWord w d v (byteOf (logic16Of v (codes d)))))
 -- ADDD
-entryOf Addd = entry operandWord (plain Computes) (λ k v sp d. computes (toD d (add16Of (accumulatorD d) v (codes d))))
+entryOf Addd = entry operandWord (always Computes) (λ k v sp d. computes (toD d (add16Of (accumulatorD d) v (codes d))))
 -- SUBD
-entryOf Subd = entry operandWord (plain Computes) (λ k v sp d. computes (toD d (sub16Of (accumulatorD d) v (codes d))))
+entryOf Subd = entry operandWord (always Computes) (λ k v sp d. computes (toD d (sub16Of (accumulatorD d) v (codes d))))
 -- CPD CPX CPY
 entryOf (CompareWord w) =
-    entry operandWord (plain Computes)
+    entry operandWord (always Computes)
     (λ k v sp d. computes (withFlags d (byteOf (sub16Of (wordRegisterOf w sp d) v (codes d) .flags))))
 -- STAA STAB
 entryOf (StoreByte c) =
-    entry nothing (at StoresByte) (λ k v sp d. gives (accumulatorOf c d) (tested8 (accumulatorOf c d) d))
+    entry nothing (atOperand StoresByte) (λ k v sp d. gives (accumulatorOf c d) (tested8 (accumulatorOf c d) d))
 -- STD STX STY STS
 entryOf (StoreWord w) =
-    entry nothing (at StoresWord) (λ k v sp d. gives (wordRegisterOf w sp d) (tested16 (wordRegisterOf w sp d) d))
+    entry nothing (atOperand StoresWord) (λ k v sp d. gives (wordRegisterOf w sp d) (tested16 (wordRegisterOf w sp d) d))
 -- NEG COM LSR ROR ASR ASL LSL ROL DEC INC CLR: CLR reads its byte before it writes, as every read-modify-write does
-entryOf (Modify u) = entry operandByte (at StoresByte) (λ k v sp d. modifies d (unaryOf u v (codes d)))
+entryOf (Modify u) = entry operandByte (atOperand StoresByte) (λ k v sp d. modifies d (unaryOf u v (codes d)))
 -- BSET
-entryOf Bset = entry operandByte (at StoresByte) (λ k v sp d. modifies d (bsetOf v k (codes d)))
+entryOf Bset = entry operandByte (atOperand StoresByte) (λ k v sp d. modifies d (bsetOf v k (codes d)))
 -- BCLR
-entryOf Bclr = entry operandByte (at StoresByte) (λ k v sp d. modifies d (bclrOf v k (codes d)))
+entryOf Bclr = entry operandByte (atOperand StoresByte) (λ k v sp d. modifies d (bclrOf v k (codes d)))
 -- BRSET
-entryOf Brset = entry operandByte (to Branches) (λ k v sp d. branches (allSet v k) d)
+entryOf Brset = entry operandByte (toTarget Branches) (λ k v sp d. branches (allSet v k) d)
 -- BRCLR
-entryOf Brclr = entry operandByte (to Branches) (λ k v sp d. branches (noneSet v k) d)
+entryOf Brclr = entry operandByte (toTarget Branches) (λ k v sp d. branches (noneSet v k) d)
 -- BRA BRN BHI BLS BCC BHS BCS BLO BNE BEQ BVC BVS BPL BMI BGE BLT BGT BLE
-entryOf (Branch t) = entry nothing (to (branchForm (t % 16))) (λ k v sp d. branches (holdsOf t (codes d)) d)
+entryOf (Branch t) = entry nothing (toTarget (branchForm (t % 16))) (λ k v sp d. branches (holdsOf t (codes d)) d)
 -- JMP
-entryOf Jmp = entry nothing (at Jumps) stays
+entryOf Jmp = entry nothing (atOperand Jumps) stays
 -- JSR BSR
-entryOf Call = entry nothing (at Calls) stays
+entryOf Call = entry nothing (atOperand Calls) stays
 -- RTS
-entryOf Rts = entry nothing (plain Returns) stays
+entryOf Rts = entry nothing (always Returns) stays
 -- PSHA PSHB
-entryOf (PushByte c) = entry nothing (plain PushesByte) (λ k v sp d. gives (accumulatorOf c d) d)
+entryOf (PushByte c) = entry nothing (always PushesByte) (λ k v sp d. gives (accumulatorOf c d) d)
 -- PSHX PSHY
-entryOf (PushWord i) = entry nothing (plain PushesWord) (λ k v sp d. gives (indexOf i d) d)
+entryOf (PushWord i) = entry nothing (always PushesWord) (λ k v sp d. gives (indexRegisterOf i d) d)
 -- PULA PULB
-entryOf (PullByte c) = entry pulledByte (plain PullsByte) (λ k v sp d. computes (withAccumulator c d v (d .flags)))
+entryOf (PullByte c) = entry pulledByte (always PullsByte) (λ k v sp d. computes (withAccumulator c d v (d .flags)))
 -- PULX PULY
-entryOf (PullWord i) = entry pulledWord (plain PullsWord) (λ k v sp d. computes (withIndex i d v))
+entryOf (PullWord i) = entry pulledWord (always PullsWord) (λ k v sp d. computes (withIndex i d v))
 -- DES
-entryOf Des = entry nothing (plain Reserves) stays
+entryOf Des = entry nothing (always Reserves) stays
 -- INS
-entryOf Ins = entry nothing (plain Releases) stays
+entryOf Ins = entry nothing (always Releases) stays
 -- TXS TYS
-entryOf (SetStack i) = entry nothing (plain MovesSp) (λ k v sp d. gives (wrappingSub (indexOf i d) 1) d)
+entryOf (SetStack i) = entry nothing (always MovesSp) (λ k v sp d. gives (wrappingSub (indexRegisterOf i d) 1) d)
 -- SWI: the registers are stacked by its form
-entryOf Swi = entry nothing (plain Interrupts) stays
+entryOf Swi = entry nothing (always Interrupts) stays
 -- RTI: and pulled by its form
-entryOf Rti = entry nothing (plain Resumes) stays
+entryOf Rti = entry nothing (always Resumes) stays
 -- WAI
-entryOf Wai = entry nothing (plain Waits) stays
+entryOf Wai = entry nothing (always Waits) stays
 -- STOP
-entryOf Stop = entry nothing (plain Waits) stays
+entryOf Stop = entry nothing (always Waits) stays
 -- TEST
-entryOf Test = entry nothing (plain Waits) stays
+entryOf Test = entry nothing (always Waits) stays
 
 -- ---- the fields of an action's entry
 

@@ -41,14 +41,14 @@ targetIn (Operand.MaskBranch a k d) next = targetOf next d
 
 -- ---- how an entry says the form: whatever the operand is; by where the operand stands; by where a branch goes
 
-abbrev pub plain : Form → Operand → ℕ → Form
-plain g o next = g
+abbrev pub always : Form → Operand → ℕ → Form
+always g o next = g
 
-abbrev pub at : (Address → Form) → Operand → ℕ → Form
-at g o next = g (addressIn o next)
+abbrev pub atOperand : (Address → Form) → Operand → ℕ → Form
+atOperand g o next = g (addressIn o next)
 
-abbrev pub to : (ℕ → Form) → Operand → ℕ → Form
-to g o next = g (targetIn o next)
+abbrev pub toTarget : (ℕ → Form) → Operand → ℕ → Form
+toTarget g o next = g (targetIn o next)
 
 -- BRA always branches and BRN never; the others go both ways
 abbrev pub branchForm : ℕ → ℕ → Form

@@ -10,7 +10,7 @@ use Rattle.registers.specs.declared.Data.{Data}
 use Rattle.registers.specs.declared.flags.Flags.{Flags}
 use Rattle.opcodes.specs.declared.instruction.Inherent.{Inherent}
 use Rattle.opcodes.specs.declared.instruction.Inherent.the-variants.{Nop, Idiv, Fdiv, Lsrd, Asld, Tap, Tpa, Inx, Dex, Iny, Dey, Clv, Sev, Clc, Sec, Cli, Sei, Sba, Cba, Tab, Tba, Daa, Aba, Tsx, Tsy, Abx, Aby, Mul, Xgdx, Xgdy}
-use Rattle.arithmetic.specs.Codes.{withZ, withC, withV as changedV}
+use Rattle.arithmetic.specs.Codes.{withZ, withC, withV}
 use Rattle.arithmetic.specs.Byte.{add8Of, sub8Of, logic8Of}
 use Rattle.arithmetic.specs.Word.{asldOf, lsrdOf, mulOf}
 use Rattle.arithmetic.specs.Decimal.{daaOf}
@@ -35,8 +35,8 @@ abbrev pub counted : ℕ → ℕ → ℕ
 counted v f = byteOf (withZ (flagsOf f) (eqb v 0))
 
 -- the condition codes with V, C or I alone changed
-abbrev pub withV : ℕ → Bool → ℕ
-withV f v = byteOf (changedV (flagsOf f) v)
+abbrev pub withOverflow : ℕ → Bool → ℕ
+withOverflow f v = byteOf (withV (flagsOf f) v)
 
 abbrev pub withCarry : ℕ → Bool → ℕ
 withCarry f c = byteOf (withC (flagsOf f) c)
@@ -66,8 +66,8 @@ inherentOf Inx sp d = withX d (wrappingAdd (d .x) 1) (counted (wrappingAdd (d .x
 inherentOf Dex sp d = withX d (wrappingSub (d .x) 1) (counted (wrappingSub (d .x) 1) (d .flags))
 inherentOf Iny sp d = withY d (wrappingAdd (d .y) 1) (counted (wrappingAdd (d .y) 1) (d .flags))
 inherentOf Dey sp d = withY d (wrappingSub (d .y) 1) (counted (wrappingSub (d .y) 1) (d .flags))
-inherentOf Clv sp d = withFlags d (withV (d .flags) false)
-inherentOf Sev sp d = withFlags d (withV (d .flags) true)
+inherentOf Clv sp d = withFlags d (withOverflow (d .flags) false)
+inherentOf Sev sp d = withFlags d (withOverflow (d .flags) true)
 inherentOf Clc sp d = withFlags d (withCarry (d .flags) false)
 inherentOf Sec sp d = withFlags d (withCarry (d .flags) true)
 inherentOf Cli sp d = withFlags d (withI (d .flags) false)

@@ -24,9 +24,9 @@ withAccumulator Acc.B d v f = withB d v f
 abbrev pub toAccumulator : Accumulator → Data → Result → Data
 toAccumulator c d w = withAccumulator c d (w .value) (byteOf (w .flags))
 
-unfoldable pub indexOf : Index → Data → ℕ
-indexOf Ix.X d = d .x
-indexOf Ix.Y d = d .y
+unfoldable pub indexRegisterOf : Index → Data → ℕ
+indexRegisterOf Ix.X d = d .x
+indexRegisterOf Ix.Y d = d .y
 
 -- PULX and PULY: a pull changes no condition code
 unfoldable pub withIndex : Index → Data → ℕ → Data

@@ -2,7 +2,8 @@
 ghost use mathlib.Core.Path.{_≡_};
 ghost use lib.ListN.{length};
 ghost use Rattle.registers.specs.Word.{wrappingSub};
-ghost use Rattle.memory.specs.Memory.{withPushed, applied};
+ghost use Rattle.memory.specs.Memory.{applied};
+ghost use Rattle.memory.specs.inner.Stored.{withPushed};
 ghost use Rattle.instructions.specs.Interrupt.{stackedOf, interruptedOf, resumedOf};
 use crate::inherent::replaced;
 use crate::inherent::with_i;

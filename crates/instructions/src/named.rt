@@ -1,7 +1,7 @@
 // The registers by name: what an action has as its data.
 ghost use mathlib.Core.Path.{_≡_};
 ghost use Rattle.registers.specs.Registers.{dataOf, withData};
-ghost use Rattle.instructions.specs.Named.{accumulatorOf, withAccumulator, indexOf, withIndex, wordRegisterOf, toWord};
+ghost use Rattle.instructions.specs.Named.{accumulatorOf, withAccumulator, indexRegisterOf, withIndex, wordRegisterOf, toWord};
 use opcodes::instruction::Accumulator;
 use opcodes::instruction::Index;
 use opcodes::instruction::Word;
@@ -25,8 +25,8 @@ pub fn with_accumulator(c: Accumulator, r: Registers, v: u8, f: u8) -> Registers
     }
 }
 
-pub fn index(i: Index, r: Registers) -> u16
-    ensures { λ v. ⌜ v ≡ indexOf i (dataOf r) ⌝ }
+pub fn index_register(i: Index, r: Registers) -> u16
+    ensures { λ v. ⌜ v ≡ indexRegisterOf i (dataOf r) ⌝ }
 {
     match i {
         Index::X => r.x,

@@ -4,7 +4,7 @@ ghost use mathlib.Core.Path.{_≡_};
 ghost use Rattle.opcodes.specs.declared.instruction.Action.the-variants as Action;
 ghost use Rattle.instructions.specs.inner.Sited.{Does, Leaves};
 use crate::named::accumulator;
-use crate::named::index;
+use crate::named::index_register;
 use crate::named::with_accumulator;
 use crate::named::with_index;
 use memory::byte_at;
@@ -28,7 +28,7 @@ pub fn push_word(i: Index, r: Registers, mem: &mut [u8]) -> Registers
     requires { ⌜ length (now mem) ≡ 65536 ⌝ }
     ensures { λ q. ⌜ Does (Action.PushWord i) r (now (mem .entry)) q (now (mem .exit)) ⌝ }
 {
-    memory::push_word(mem, r.sp, index(i, r));
+    memory::push_word(mem, r.sp, index_register(i, r));
     r.with_sp(wrapping_sub(r.sp, 2))
 }
 
@@ -67,7 +67,7 @@ pub fn release(r: Registers) -> Registers
 pub fn set_stack(i: Index, r: Registers) -> Registers
     ensures { λ q. ⌜ Leaves (Action.SetStack i) r q ⌝ }
 {
-    r.with_sp(wrapping_sub(index(i, r), 1))
+    r.with_sp(wrapping_sub(index_register(i, r), 1))
 }
 
 // RTS.

@@ -35,9 +35,3 @@ wordStores a v = store a (v / 256) ∷ store (wrappingAdd a 1) (v % 256) ∷ []
 -- a 16-bit push: the low byte at SP, then the high byte below it
 abbrev pub pushStores : ℕ → ℕ → List Store
 pushStores sp v = store sp (v % 256) ∷ store (wrappingSub sp 1) (v / 256) ∷ []
-
-unfoldable pub withWord : List ℕ → ℕ → ℕ → List ℕ
-withWord m a v = applied (wordStores a v) m
-
-unfoldable pub withPushed : List ℕ → ℕ → ℕ → List ℕ
-withPushed m sp v = applied (pushStores sp v) m

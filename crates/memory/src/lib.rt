@@ -1,7 +1,8 @@
 // An inner crate: a memory of 65,536 plain bytes, whose addresses wrap. Its functions require a memory of that length.
 ghost use mathlib.Core.Path.{_≡_};
 ghost use lib.ListN.{length};
-ghost use Rattle.memory.specs.Memory.{byteAt, wordAt, withByte, withWord, withPushed};
+ghost use Rattle.memory.specs.Memory.{byteAt, wordAt, withByte};
+ghost use Rattle.memory.specs.inner.Stored.{withStored, withPushed};
 use registers::word::wrapping_add;
 use registers::word::wrapping_sub;
 
@@ -34,7 +35,7 @@ pub fn put_byte(mem: &mut [u8], at: u16, v: u8)
 // A 16-bit store: the high byte first.
 pub fn put_word(mem: &mut [u8], at: u16, v: u16)
     requires { ⌜ length (now mem) ≡ 65536 ⌝ }
-    ensures { λ _. ⌜ (now (mem .exit) ≡ withWord (now (mem .entry)) at v) × (length (now (mem .exit)) ≡ 65536) ⌝ }
+    ensures { λ _. ⌜ (now (mem .exit) ≡ withStored (now (mem .entry)) at v) × (length (now (mem .exit)) ≡ 65536) ⌝ }
 {
     put_byte(mem, at, (v / 256) as u8);
     put_byte(mem, wrapping_add(at, 1), (v % 256) as u8);

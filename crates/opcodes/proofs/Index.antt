@@ -6,16 +6,16 @@ use Prim.Native.Nat.{ℕ, _<_, _%_}
 use lib.Dec.{T, eqb, eqb→eq}
 use lib.ListN.{replicate}
 use Rattle.registers.specs.Flags.{flagsOf}
-use Rattle.opcodes.specs.Conditions.{index}
+use Rattle.opcodes.specs.Conditions.{truthIndex}
 use Rattle.opcodes.proofs.Every.{every, at}
 
 same : ℕ → ℕ → Bool
-same v d = eqb (index (flagsOf v)) (v % 16)
+same v d = eqb (truthIndex (flagsOf v)) (v % 16)
 
 tested : T (every same 0 (replicate 256 0))
 unfolding same
 tested = tt
 
-pub low-half : (v : ℕ) → v < 256 → index (flagsOf v) ≡ v % 16
+pub low-half : (v : ℕ) → v < 256 → truthIndex (flagsOf v) ≡ v % 16
 unfolding same
-low-half v h = eqb→eq (index (flagsOf v)) (v % 16) (at same 0 (replicate 256 0) tested v h)
+low-half v h = eqb→eq (truthIndex (flagsOf v)) (v % 16) (at same 0 (replicate 256 0) tested v h)

@@ -33,16 +33,16 @@ tests =
     []
 
 -- bit i of a truth word is the test's truth at the index i = 8N + 4Z + 2V + C
-abbrev pub index : Flags → ℕ
-index f = 8 * one (f .n) + 4 * one (f .z) + 2 * one (f .v) + one (f .c)
+abbrev pub truthIndex : Flags → ℕ
+truthIndex f = 8 * one (f .n) + 4 * one (f .z) + 2 * one (f .v) + one (f .c)
 
-abbrev pub at : Test → ℕ → Bool
-at t i = t (bit 3 i) (bit 2 i) (bit 1 i) (low i)
+abbrev pub testAt : Test → ℕ → Bool
+testAt t i = t (bit 3 i) (bit 2 i) (bit 1 i) (low i)
 
 -- the lowest k bits of the truth word
 abbrev pub truthWord : Test → ℕ → ℕ
 truthWord t zero = 0
-truthWord t (suc k) = one (at t k) * 2 ^ k + truthWord t k
+truthWord t (suc k) = one (testAt t k) * 2 ^ k + truthWord t k
 
 abbrev pub truthWordsOf : List Test → List ℕ
 truthWordsOf [] = []
@@ -53,4 +53,4 @@ truthWords = truthWordsOf tests
 
 -- whether a test holds: its number is the low half-byte of its opcode
 unfoldable pub holdsOf : ℕ → Flags → Bool
-holdsOf k f = bit (index f) (getD truthWords (k % 16) 0)
+holdsOf k f = bit (truthIndex f) (getD truthWords (k % 16) 0)

@@ -1,7 +1,7 @@
 -- `push_word` meets its contract: the two stores in order, the low byte first.
 -- Assumes nothing.
 use borrow.Author.Needs.{needs}
-use Rattle.memory.specs.Memory.{withPushed}
+use Rattle.memory.specs.inner.Stored.{withPushed}
 use Rattle.memory.proofs.push_word.Statement.{statement}
 use Rattle.memory.proofs.push_word.Tie as tie
 

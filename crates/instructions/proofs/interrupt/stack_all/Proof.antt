@@ -1,7 +1,7 @@
 -- `stack_all` meets its contract: the calls do the stores of `stackedOf` in order.
 -- Assumes nothing.
 use borrow.Author.Needs.{needs}
-use Rattle.memory.specs.Memory.{withPushed}
+use Rattle.memory.specs.inner.Stored.{withPushed}
 use Rattle.instructions.specs.Interrupt.{stackedOf}
 use Rattle.instructions.proofs.interrupt.stack_all.Statement.{statement}
 use Rattle.instructions.proofs.interrupt.stack_all.Tie as tie

@@ -10,4 +10,4 @@ unfolding opened
 push-word-spec =
     tie.close
     (tie.spec (search needs) (search needs) (search needs) (search needs) (search needs)
-    (λ c o. (simp (c .with-sp .ensures, c .before .wrapping-sub .ensures, c .before .before .before .before .before .index .ensures), cc)))
+    (λ c o. (simp (c .with-sp .ensures, c .before .wrapping-sub .ensures, c .before .before .before .before .before .index-register .ensures), cc)))
