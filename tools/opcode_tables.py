@@ -18,7 +18,7 @@ import sys
 sys.dont_write_bytecode = True  # no __pycache__ beside the sources
 from rows import CRATE, listed, names, rows
 
-PLACES, A_LINE = 1024, 16
+PLACES = 1024
 ROWS, NUMBERS, TABLE, NUMBERED = (
     CRATE / f for f in ("specs/Rows.antt", "specs/inner/Numbers.antt", "src/table.rt", "src/numbered.rt")
 )
@@ -51,8 +51,9 @@ def named_numbers(text):
     return head + re.sub(r"^(    .* ∷)(?:  --.*)?$", named, body, flags=re.M) + tail
 
 
-def lines(entries):
-    return "".join("    " + ", ".join(entries[i : i + A_LINE]) + ",\n" for i in range(0, PLACES, A_LINE))
+def lines(entries, a_line):
+    """Entries by lines, each with the place of its first one behind it."""
+    return "".join(f"    {', '.join(entries[i : i + a_line])}, // 0x{i:03x}\n" for i in range(0, PLACES, a_line))
 
 
 def with_constants(code, actions, modes):
@@ -63,14 +64,13 @@ def with_constants(code, actions, modes):
         costs[row.place] = 256 * row.length + row.cycles
         action_at[row.place] = [*actions, "Test"].index(row.action)
         mode_at[row.place] = modes.index("Mode." + row.mode)
-    for name, entries in (
-        ("COSTS", [f"0x{n:04x}" for n in costs]),
-        ("ACTIONS", [str(n) for n in action_at]),
-        ("MODES", [str(n) for n in mode_at]),
+    for name, text in (
+        ("COSTS", lines([f"0x{n:04x}" for n in costs], 8)),
+        ("ACTIONS", lines([str(n) for n in action_at], 16)),
+        ("MODES", lines([str(n) for n in mode_at], 16)),
     ):
-        head = rf"(const {name}: \[\w+; {PLACES}\] = \[\n)"
-        code, found = re.subn(head + r".*?(^\];)", lambda m: m[1] + lines(entries) + m[2], code, count=1,
-                              flags=re.M | re.S)
+        constant = rf"(const {name}: \[\w+; {PLACES}\] = \[\n).*?(^\];)"
+        code, found = re.subn(constant, lambda m: m[1] + text + m[2], code, flags=re.M | re.S)
         assert found == 1, name
     return code
 

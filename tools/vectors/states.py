@@ -12,11 +12,14 @@ made and nothing else: no expected answer comes from it. The same states come ou
 fixed seed).
 """
 import random
-import re
 import sys
 from collections import namedtuple
+from pathlib import Path
 
-ROWS = "crates/opcodes/specs/Rows.antt"
+sys.dont_write_bytecode = True  # no __pycache__ beside the sources
+sys.path.insert(0, str(Path(__file__).resolve().parent.parent))
+import rows as table
+
 REFUSED = {"Test", "Wai", "Stop"}
 PREFIX = {0: [], 1: [0x18], 2: [0x1A], 3: [0xCD]}
 DEVICES = range(0x1000, 0x1040)  # MAME has its on-chip registers here
@@ -53,13 +56,11 @@ Subject = namedtuple("Subject", "register operand flags", defaults=(None, None, 
 
 def rows():
     """A row for each place that is executed."""
-    with open(ROWS, encoding="utf-8") as f:
-        text = f.read()
-    for place, action, mode, length in re.findall(r"^ +row (\w+) (\(.*?\)|\w+) Mode\.(\w+) (\d+) \d+", text, re.M):
-        words = [w.split(".")[-1] for w in action.strip("()").split()]
+    for row in table.rows():
+        words = [w.split(".")[-1] for w in row.action.split()]
         if words[0] not in REFUSED:
             name = words[1] if words[0] in ("Inherent", "Binary", "Unary", "Modify") else words[0]
-            yield Row(int(place, 16), words[0], name, words[-1], mode, int(length))
+            yield Row(row.place, words[0], name, words[-1], row.mode, row.length)
 
 
 class Chooser:

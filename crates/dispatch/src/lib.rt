@@ -1,5 +1,7 @@
-// An inner crate: one instruction, by the number of its action (opcodes/specs/inner/Numbers.antt). An arm calls the instruction with its case as a constant,
-// and a match has fewer than fifty arms, so that the compiler takes each arm into the loop that runs the instructions. `_` stands for no number of a group.
+// An inner crate: one instruction, by the number of its action (opcodes/specs/inner/Numbers.antt). An arm calls the
+// instruction with its case as a constant, and a match has fewer than fifty arms, so that the compiler takes each arm into
+// the loop that runs the instructions. `_` stands for no number of a group. tools/opcode_tables.py writes an arm's number,
+// by the name behind it.
 ghost use mathlib.Core.Path.{_≡_};
 ghost use mathlib.Core.Bool.{true};
 ghost use lib.ListN.{length};

@@ -1,4 +1,5 @@
-// The instruction at a place of the opcode maps, as an action with an operand. The verdict goes by it; the step goes by the tables' numbers.
+// The instruction at a place of the opcode maps, as an action with an operand. The verdict goes by it; the step goes by
+// the tables' numbers.
 ghost use mathlib.Core.Path.{_≡_};
 ghost use mathlib.Core.List.{map};
 ghost use Prim.Native.Nat.{_<_};

@@ -1,4 +1,5 @@
--- What the operations answer, as the code answers it: with the condition codes as their byte. An inner matter of the code.
+-- What the operations answer, as the code answers it: with the condition codes as their byte. An inner matter of the
+-- code.
 -- Assumes nothing.
 use Rattle.registers.specs.Flags.{byteOf}
 use Rattle.arithmetic.specs.declared.byte.ByteResult.{ByteResult}
