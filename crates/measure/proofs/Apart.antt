@@ -1,20 +1,20 @@
--- Two different kinds have different readings: from what `kindSaid` says of a kind the kind is found again.
+-- Two different flows have different readings: from what `flowSaid` says of a flow the flow is found again.
 -- Assumes nothing.
 use mathlib.Core.Path.{_≡_, refl, sym, ap, _∙_}
-use Rattle.stepper.specs.Trace.{Flow, calls, returns, plain}
-use Rattle.measure.specs.declared.kind.Kind.{Kind as Said}
-use Rattle.measure.specs.declared.kind.Kind.the-variants as Said
-use Rattle.measure.specs.Look.{kindSaid}
+use Rattle.stepper.specs.Flow.{Flow, calls, returns, plain}
+use Rattle.measure.specs.declared.flow.Flow.{Flow as Said}
+use Rattle.measure.specs.declared.flow.Flow.the-variants as Said
+use Rattle.measure.specs.Look.{flowSaid}
 
-abbrev kindFrom : Flow → Said
-kindFrom calls = Said.Calls
-kindFrom returns = Said.Returns
-kindFrom plain = Said.Plain
+abbrev flowFrom : Flow → Said
+flowFrom calls = Said.Calls
+flowFrom returns = Said.Returns
+flowFrom plain = Said.Plain
 
-kind-back : (k : Said) → kindFrom (kindSaid k) ≡ k
-kind-back Said.Calls = refl
-kind-back Said.Returns = refl
-kind-back Said.Plain = refl
+flow-back : (k : Said) → flowFrom (flowSaid k) ≡ k
+flow-back Said.Calls = refl
+flow-back Said.Returns = refl
+flow-back Said.Plain = refl
 
-pub kinds-apart : (a b : Said) → kindSaid a ≡ kindSaid b → a ≡ b
-kinds-apart a b e = sym (kind-back a) ∙ ap kindFrom e ∙ kind-back b
+pub flows-apart : (a b : Said) → flowSaid a ≡ flowSaid b → a ≡ b
+flows-apart a b e = sym (flow-back a) ∙ ap flowFrom e ∙ flow-back b

@@ -1,3 +1,3 @@
-mod Found
+mod FlowFound
 mod Left
 pub mod Apart

@@ -9,15 +9,15 @@ use Rattle.registers.specs.declared.Registers.{Registers}
 use Rattle.stepper.specs.Answer.{Answer, done, refused}
 use Rattle.stepper.specs.Step.{stepOf}
 use Rattle.commands.specs.declared.command.Claim.{Claim}
-use Rattle.stepper.specs.Trace.{Flow, calls, returns, plain, flowOf}
-use Rattle.measure.specs.declared.kind.Kind.{Kind as Said}
-use Rattle.measure.specs.declared.kind.Kind.the-variants as Said
+use Rattle.stepper.specs.Flow.{Flow, calls, returns, plain, flowOf}
+use Rattle.measure.specs.declared.flow.Flow.{Flow as Said}
+use Rattle.measure.specs.declared.flow.Flow.the-variants as Said
 use Rattle.measure.specs.declared.look.Look.{Look}
 
-abbrev pub kindSaid : Said → Flow
-kindSaid Said.Calls = calls
-kindSaid Said.Returns = returns
-kindSaid Said.Plain = plain
+abbrev pub flowSaid : Said → Flow
+flowSaid Said.Calls = calls
+flowSaid Said.Returns = returns
+flowSaid Said.Plain = plain
 
 abbrev pub beginOf : Registers → ℕ → Look
 beginOf r b = record { regs = r; lowest = r .sp; pending = 0; left = b; over = false }
@@ -29,7 +29,7 @@ overOf l = record { regs = l .regs; lowest = l .lowest; pending = l .pending; le
 abbrev pub lowerOf : ℕ → ℕ → ℕ
 lowerOf a b = cond (ltb a b) a b
 
--- the calls that have not returned after an instruction of a kind
+-- the calls that have not returned after an instruction of a flow
 abbrev pub pendingAfter : Flow → ℕ → ℕ
 pendingAfter calls n = n + 1
 pendingAfter returns n = n - 1
@@ -41,7 +41,7 @@ ends calls n = false
 ends returns n = eqb n 0
 ends plain n = false
 
--- an instruction of this kind led to the registers q in k cycles
+-- an instruction of this flow led to the registers q in k cycles
 abbrev pub onOf : Flow → Look → Registers → ℕ → Look
 onOf d l q k = record { regs = q; lowest = lowerOf (l .lowest) (q .sp); pending = pendingAfter d (l .pending); left = l .left - k; over = ends d (l .pending) }
 

@@ -2,10 +2,10 @@
 ghost use mathlib.Core.Path.{_≡_};
 ghost use Prim.Native.Nat.{_+_, _≤_, _<_};
 ghost use lib.ListN.{length};
-ghost use Rattle.measure.specs.Look.{kindSaid, beginOf, overOf, lowerOf, pendingAfter, ends, afterOf, turned, turnOf, lookOf, measuredOf};
+ghost use Rattle.measure.specs.Look.{flowSaid, beginOf, overOf, lowerOf, pendingAfter, ends, afterOf, turned, turnOf, lookOf, measuredOf};
 ghost use Rattle.stepper.specs.Answer.{done};
-use crate::kind::Kind;
-use crate::kind::kind_at;
+use crate::flow::Flow;
+use crate::flow::flow_at;
 use commands::command::Claim;
 use registers::Cycles;
 use registers::Registers;
@@ -54,32 +54,32 @@ fn lower(a: u16, b: u16) -> u16
     if a < b { a } else { b }
 }
 
-fn pending_after(d: Kind, n: u32) -> u32
+fn pending_after(d: Flow, n: u32) -> u32
     requires { ⌜ n + 1 < 4294967296 ⌝ }
-    ensures { λ r. ⌜ (r ≡ pendingAfter (kindSaid d) n) × (r ≤ n + 1) ⌝ }
+    ensures { λ r. ⌜ (r ≡ pendingAfter (flowSaid d) n) × (r ≤ n + 1) ⌝ }
 {
     match d {
-        Kind::Calls => n + 1,
-        Kind::Returns => { if n == 0 { 0 } else { n - 1 } }
-        Kind::Plain => n,
+        Flow::Calls => n + 1,
+        Flow::Returns => { if n == 0 { 0 } else { n - 1 } }
+        Flow::Plain => n,
     }
 }
 
 // A return while no call is pending is the routine's own.
-fn ends(d: Kind, n: u32) -> bool
-    ensures { λ r. ⌜ r ≡ ends (kindSaid d) n ⌝ }
+fn ends(d: Flow, n: u32) -> bool
+    ensures { λ r. ⌜ r ≡ ends (flowSaid d) n ⌝ }
 {
     match d {
-        Kind::Calls => false,
-        Kind::Returns => n == 0,
-        Kind::Plain => false,
+        Flow::Calls => false,
+        Flow::Returns => n == 0,
+        Flow::Plain => false,
     }
 }
 
-// An instruction of this kind led to the registers q in k cycles.
-fn after(d: Kind, l: Look, q: Registers, k: Cycles) -> Look
+// An instruction of this flow led to the registers q in k cycles.
+fn after(d: Flow, l: Look, q: Registers, k: Cycles) -> Look
     requires { ⌜ l .pending + 1 < 4294967296 ⌝ }
-    ensures { λ r. ⌜ (r ≡ afterOf (kindSaid d) l (done q k)) × (r .pending ≤ l .pending + 1) × (r .left ≤ l .left) ⌝ }
+    ensures { λ r. ⌜ (r ≡ afterOf (flowSaid d) l (done q k)) × (r .pending ≤ l .pending + 1) × (r .left ≤ l .left) ⌝ }
 {
     if l.left < k.0 {
         return over(l);
@@ -99,7 +99,7 @@ fn turn(l: Look, mem: &mut [u8]) -> Look
     ensures { λ r. ⌜ (turned r (now (mem .exit)) ≡ turnOf l (now (mem .entry))) × (length (now (mem .exit)) ≡ 65536) × (r .pending ≤ l .pending + 1) × (r .left ≤ l .left) ⌝ }
 {
     let regs = l.regs;
-    let d = kind_at(mem, regs.pc);
+    let d = flow_at(mem, regs.pc);
     match step(regs, mem) {
         Stepped::Done(q, k) => after(d, l, q, k),
         Stepped::Refused(_) => over(l),

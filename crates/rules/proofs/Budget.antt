@@ -16,7 +16,8 @@ use Rattle.stepper.specs.Run.{AfterRun, runFrom, runOf}
 use Rattle.stepper.specs.Advance.{stepped}
 use Rattle.stepper.proofs.Turn as Turn
 use Rattle.stepper.proofs.Enough.{enough}
-use Rattle.stepper.specs.Trace.{flowOf, Event, total, Along, stay, then}
+use Rattle.stepper.specs.Flow.{flowOf}
+use Rattle.stepper.specs.Trace.{Event, total, Along, stay, then}
 use Rattle.rules.specs.Claim.{ranHome, ranSpent, Stops}
 use Rattle.rules.proofs.Obeys.{busy}
 
@@ -42,34 +43,34 @@ module _ (b s : ℕ) (r : Registers) (m : List ℕ) {q : Registers} {ws : List S
   stands l = Turn.away b b s r m away ∙ Turn.over b b s r m (ap (λ (x : After). x .answer) steps) l
 
 -- a trace that is covered is gone along
-follows : {r e : Registers} {m n : List ℕ} {ds : List Event} (b s : ℕ) → Along r m ds e n → s + total ds ≤ b → runOn b s r m ≡ runOn b (s + total ds) e n
+follows : {r e : Registers} {m n : List ℕ} {evs : List Event} (b s : ℕ) → Along r m evs e n → s + total evs ≤ b → runOn b s r m ≡ runOn b (s + total evs) e n
 follows b s stay l = rw add-zero refl
 follows b s (then {r} {m} {k} away done rest) l = goes-on b s r m away done (omega arith) ∙ follows b (s + k) rest (omega arith) ∙ rw add-assoc refl
 
-from-start : {r e : Registers} {m n : List ℕ} {ds : List Event} (b : ℕ) → length m ≡ 65536 → Along r m ds e n → total ds ≤ b → runOf r m b ≡ runOn b (total ds) e n
-from-start {r} {m} {ds} b whole a l = starts r m b whole ∙ follows b 0 a (omega arith) ∙ rw zero-add refl
+from-start : {r e : Registers} {m n : List ℕ} {evs : List Event} (b : ℕ) → length m ≡ 65536 → Along r m evs e n → total evs ≤ b → runOf r m b ≡ runOn b (total evs) e n
+from-start {r} {m} {evs} b whole a l = starts r m b whole ∙ follows b 0 a (omega arith) ∙ rw zero-add refl
 
-pub run-home : {r e : Registers} {m n : List ℕ} {ds : List Event} → length m ≡ 65536 → Along r m ds e n → e .pc ≡ 0 → (b : ℕ) → total ds ≤ b
-    → runOf r m b ≡ ranHome e n (total ds)
-run-home {e} {n} {ds} whole a h b l = from-start b whole a l ∙ Turn.at-home b b (total ds) e n h
+pub run-home : {r e : Registers} {m n : List ℕ} {evs : List Event} → length m ≡ 65536 → Along r m evs e n → e .pc ≡ 0 → (b : ℕ) → total evs ≤ b
+    → runOf r m b ≡ ranHome e n (total evs)
+run-home {e} {n} {evs} whole a h b l = from-start b whole a l ∙ Turn.at-home b b (total evs) e n h
 
 -- two traces, one after the other
-joined : {r q e : Registers} {m n o : List ℕ} {ds ds′ : List Event} → Along r m ds q n → Along q n ds′ e o → Along r m (ds ++ ds′) e o
+joined : {r q e : Registers} {m n o : List ℕ} {evs evs′ : List Event} → Along r m evs q n → Along q n evs′ e o → Along r m (evs ++ evs′) e o
 joined stay a′ = a′
 joined (then away done a) a′ = then away done (joined a a′)
 
-total-++ : (ds ds′ : List Event) → total (ds ++ ds′) ≡ total ds + total ds′
-total-++ [] ds′ = rw zero-add refl
-total-++ (d ∷ ds) ds′ = rw (total-++ ds ds′, add-assoc) refl
+total-++ : (evs evs′ : List Event) → total (evs ++ evs′) ≡ total evs + total evs′
+total-++ [] evs′ = rw zero-add refl
+total-++ (ev ∷ evs) evs′ = rw (total-++ evs evs′, add-assoc) refl
 
 module _ (r₀ : Registers) (m₀ : List ℕ) (whole : length m₀ ≡ 65536) (b : ℕ) where
   -- where the next instruction is not covered
-  stops-here : (before : List Event) {r q : Registers} {m : List ℕ} {ws : List Store} (d : Event) (ds : List Event) → Along r₀ m₀ before r m
-      → total before ≤ b → (r .pc ≡ 0 → ⊥) → didOf r m ≡ did q ws (d .cycles) → b < total before + d .cycles → Stops r₀ m₀ (before ++ (d ∷ ds)) b
-  stops-here before {r} {m} d ds a l away done u = record {
+  stops-here : (before : List Event) {r q : Registers} {m : List ℕ} {ws : List Store} (ev : Event) (evs : List Event) → Along r₀ m₀ before r m
+      → total before ≤ b → (r .pc ≡ 0 → ⊥) → didOf r m ≡ did q ws (ev .cycles) → b < total before + ev .cycles → Stops r₀ m₀ (before ++ (ev ∷ evs)) b
+  stops-here before {r} {m} ev evs a l away done u = record {
     before = before;
-    next = d;
-    rest = ds;
+    next = ev;
+    rest = evs;
     parts = refl;
     registers = r;
     memory = m;
@@ -80,15 +81,15 @@ module _ (r₀ : Registers) (m₀ : List ℕ) (whole : length m₀ ≡ 65536) (b
   }
 
   -- what is done is covered, and all that is left is not
-  stops : (before : List Event) {r e : Registers} {m n : List ℕ} {ds : List Event} → Along r₀ m₀ before r m → total before ≤ b → Along r m ds e n
-      → b < total before + total ds → Stops r₀ m₀ (before ++ ds) b
+  stops : (before : List Event) {r e : Registers} {m n : List ℕ} {evs : List Event} → Along r₀ m₀ before r m → total before ≤ b → Along r m evs e n
+      → b < total before + total evs → Stops r₀ m₀ (before ++ evs) b
   stops before a l stay u = absurd (omega arith)
-  stops before a l (then {r} {q} {m} {ws} {k} {ds} away done rest) u =
-      let d : Event = record { flow = flowOf m (r .pc); stores = ws; cycles = k; sp = q .sp } in
-      let sum : total (before ++ (d ∷ [])) ≡ total before + k = rw (total-++ before (d ∷ []), add-zero) refl in
-      ⊎-elim (λ c. let later = stops (before ++ (d ∷ [])) (joined a (then away done stay)) (omega (arith, sum, c)) rest (omega (arith, sum)) in
-      rw (append-assoc before (d ∷ []) ds) at later)
-      (λ c. stops-here before d ds a l away done c) (le-or-lt (total before + k) b)
+  stops before a l (then {r} {q} {m} {ws} {k} {evs} away done rest) u =
+      let ev : Event = record { flow = flowOf m (r .pc); stores = ws; cycles = k; sp = q .sp } in
+      let sum : total (before ++ (ev ∷ [])) ≡ total before + k = rw (total-++ before (ev ∷ []), add-zero) refl in
+      ⊎-elim (λ c. let later = stops (before ++ (ev ∷ [])) (joined a (then away done stay)) (omega (arith, sum, c)) rest (omega (arith, sum)) in
+      rw (append-assoc before (ev ∷ []) evs) at later)
+      (λ c. stops-here before ev evs a l away done c) (le-or-lt (total before + k) b)
 
-pub run-stops : {r e : Registers} {m n : List ℕ} {ds : List Event} → length m ≡ 65536 → Along r m ds e n → (b : ℕ) → b < total ds → Stops r m ds b
+pub run-stops : {r e : Registers} {m n : List ℕ} {evs : List Event} → length m ≡ 65536 → Along r m evs e n → (b : ℕ) → b < total evs → Stops r m evs b
 run-stops {r} {m} whole a b u = stops r m whole b [] stay (omega arith) a (omega arith)

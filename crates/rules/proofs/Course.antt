@@ -9,8 +9,9 @@ use Rattle.registers.specs.declared.Registers.{Registers}
 use Rattle.memory.specs.Memory.{applied}
 use Rattle.ticket.specs.Fields.{Fields}
 use Rattle.rules.specs.Rules.{Accepted}
+use Rattle.stepper.specs.Flow.{flowOf}
+use Rattle.stepper.specs.Trace.{Event, total, Along, stay, then}
 use Rattle.rules.specs.InUse.{inUseAfter}
-use Rattle.stepper.specs.Trace.{flowOf, Event, total, Along, stay, then}
 use Rattle.rules.specs.Claim.{topOf, Keeps, Safe}
 use Rattle.rules.proofs.Obeys.{busy}
 use Rattle.rules.proofs.Ready.{Ready, Arrived, Stepped, under-top, free, not-home, one-step}

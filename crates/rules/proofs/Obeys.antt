@@ -28,7 +28,7 @@ use Rattle.stepper.specs.Step.{Did, did, fetched, executed, carriedOut, didIf, 
 use Rattle.stepper.proofs.Costs.{step-cost}
 use Rattle.commands.specs.Every.{Every, none, more}
 use Rattle.rules.specs.Shape.{Shape, ordinary, call, return, forbidden, nothing, shapeBy, shapeIn, shapeOf}
-use Rattle.stepper.specs.Trace.{calls, returns, plain, flowBy, flowIn, flowOf}
+use Rattle.stepper.specs.Flow.{calls, returns, plain, flowBy, flowIn, flowOf}
 
 -- some element of a list has a property
 abbrev pub Some : (ℕ → Type 0) → List ℕ → Type 0

@@ -12,8 +12,8 @@ use Rattle.stepper.specs.Trace.{Event, Along, stay, then}
 parts : {q q′ : Registers} {ws ws′ : List Store} {k k′ : ℕ} → did q ws k ≡ did q′ ws′ k′ → (q ≡ q′) × (ws ≡ ws′) × (k ≡ k′)
 parts e = (cc, cc, cc)
 
-pub only : {r : Registers} {m : List ℕ} {ds ds′ : List Event} {e e′ : Registers} {n n′ : List ℕ} → Along r m ds e n → e .pc ≡ 0 → Along r m ds′ e′ n′ → e′ .pc ≡ 0
-    → (ds′ ≡ ds) × (e′ ≡ e) × (n′ ≡ n)
+pub only : {r : Registers} {m : List ℕ} {evs evs′ : List Event} {e e′ : Registers} {n n′ : List ℕ} → Along r m evs e n → e .pc ≡ 0 → Along r m evs′ e′ n′ → e′ .pc ≡ 0
+    → (evs′ ≡ evs) × (e′ ≡ e) × (n′ ≡ n)
 only stay h stay h′ = (refl, refl, refl)
 only stay h (then away d a) h′ = absurd (away h)
 only (then away d a) h stay h′ = absurd (away h′)

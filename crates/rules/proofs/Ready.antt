@@ -19,8 +19,8 @@ use Rattle.ticket.specs.Rules.{In, HeaderRules, MarkRules}
 use Rattle.rules.specs.Shape.{Shape, ordinary, call, return, forbidden, nothing, shapeOf}
 use Rattle.rules.specs.Marks.{claimAt, imageFrom}
 use Rattle.rules.specs.Rules.{Follows, OrdinaryRules, CallRules, ReturnRules, RulesBy, RulesAt, Accepted}
+use Rattle.stepper.specs.Flow.{flowOf}
 use Rattle.rules.specs.InUse.{inUseAfter}
-use Rattle.stepper.specs.Trace.{flowOf}
 use Rattle.rules.specs.Claim.{topOf, Spares}
 use Rattle.rules.proofs.Obeys.{every-some, Stored, Obeys, obeys}
 use Rattle.rules.proofs.SameShape.{same-shape}
@@ -105,7 +105,7 @@ module _ {f : Fields} {image : List ℕ} {A : Accepted f image} {r : Registers} 
         inr (rw (s .2) (s .1))
 
     by-ordinary : Obeys (ordinary next pushed pulled written k) r m → Stepped A r m used p
-    by-ordinary (q, ws, done, kind, goes, sp, stores) =
+    by-ordinary (q, ws, done, flow, goes, sp, stores) =
         let s : (x : ℕ) × Follows (f .marks) (R .claim) pushed pulled k x × (q .pc ≡ x) = every-some next (O .follows) goes in
         let F : Follows (f .marks) (R .claim) pushed pulled k (s .0) = s .1 in
         let P : Every (Placed f (R .base)) ws = every-map (placed (s .0) F) stores in
@@ -129,13 +129,13 @@ module _ {f : Fields} {image : List ℕ} {A : Accepted f image} {r : Registers} 
             depth = omega (arith, R .depth, F .depth);
             room = omega (arith, R .room, F .need);
             stacked = framed ws P;
-            in-use = rw kind (R .in-use);
+            in-use = rw flow (R .in-use);
             cost = omega arith;
           });
         }
 
   by-call : (target after k : ℕ) → CallRules f (R .claim) target after k → Obeys (call target after k) r m → Stepped A r m used p
-  by-call target after k C (q, done, kind, pc, sp) =
+  by-call target after k C (q, done, flow, pc, sp) =
       let one : wrappingSub (r .sp) 1 + 1 ≡ r .sp = less-is (r .sp) 1 (omega (arith, small, R .depth)) (omega (arith, free, C .there-need, rules .stack-start)) in
       let e2 : r .sp ≡ q .sp + 2 = rw sp (sym (less-is (r .sp) 2 (omega (arith, small, R .depth)) (omega (arith, free, C .there-need, rules .stack-start)))) in
       let e1 : wrappingSub (r .sp) 1 ≡ q .sp + 1 = omega arith in
@@ -169,7 +169,7 @@ module _ {f : Fields} {image : List ℕ} {A : Accepted f image} {r : Registers} 
             },
             framed ws P,
           );
-          in-use = rw kind (cc (e1, e2, R .in-use));
+          in-use = rw flow (cc (e1, e2, R .in-use));
           cost = omega arith;
         });
       }
@@ -193,7 +193,7 @@ module _ {f : Fields} {image : List ℕ} {A : Accepted f image} {r : Registers} 
   })
 
   by-return : (k : ℕ) → ReturnRules (R .claim) k → Obeys (return k) r m → Stepped A r m used p
-  by-return k C (q, done, kind, pc, sp) =
+  by-return k C (q, done, flow, pc, sp) =
       let e : r .sp ≡ R .base = omega (arith, R .depth, C .depth) in
       record {
         registers = q;
@@ -203,7 +203,7 @@ module _ {f : Fields} {image : List ℕ} {A : Accepted f image} {r : Registers} 
         done = done;
         spares = none;
         cost = omega (arith, C .cost, R .cost);
-        goes = rw kind (back (R .frames) (R .stacked) (R .in-use) q (rw (← e) pc) (sp ∙ rw e (plus-is (R .base) 2 small)));
+        goes = rw flow (back (R .frames) (R .stacked) (R .in-use) q (rw (← e) pc) (sp ∙ rw e (plus-is (R .base) 2 small)));
       }
 
   by-shape : (s : Shape) → RulesBy f (R .claim) s → Obeys s r m → Stepped A r m used p

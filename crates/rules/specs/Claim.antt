@@ -14,8 +14,8 @@ use Rattle.stepper.specs.Run.{AfterRun, runOf}
 use Rattle.ticket.specs.Fields.{Fields}
 use Rattle.commands.specs.Every.{Every}
 use Rattle.ticket.specs.Rules.{In}
-use Rattle.rules.specs.InUse.{inUseAfter}
 use Rattle.stepper.specs.Trace.{Event, total, Along}
+use Rattle.rules.specs.InUse.{inUseAfter}
 
 -- T, the stack window's last address
 abbrev pub topOf : Fields → ℕ
@@ -35,15 +35,15 @@ pub record Spares (f : Fields) (used : List (List ℕ)) (w : Store) : Type 0 whe
   pub returns : Every (Every (λ a. w .at ≡ a → ⊥)) used
 
 -- after an instruction SP lies from one below the stack window to T, and never more than need below the start's
-pub record Keeps (f : Fields) (need : ℕ) (used : List (List ℕ)) (d : Event) : Type 0 where
-  pub spares : Every (Spares f used) (d .stores)
-  pub sp-low : f .header .stack .start ≤ d .sp + 1
-  pub sp-high : d .sp ≤ topOf f
-  pub sp-need : topOf f ≤ d .sp + 2 + need
+pub record Keeps (f : Fields) (need : ℕ) (used : List (List ℕ)) (ev : Event) : Type 0 where
+  pub spares : Every (Spares f used) (ev .stores)
+  pub sp-low : f .header .stack .start ≤ ev .sp + 1
+  pub sp-high : ev .sp ≤ topOf f
+  pub sp-need : topOf f ≤ ev .sp + 2 + need
 
 abbrev pub Safe : Fields → ℕ → List (List ℕ) → List Event → Type 0
 Safe f need used [] = Unit
-Safe f need used (d ∷ ds) = Keeps f need used d × Safe f need (inUseAfter (d .flow) (d .stores) used) ds
+Safe f need used (ev ∷ evs) = Keeps f need used ev × Safe f need (inUseAfter (ev .flow) (ev .stores) used) evs
 
 -- home's two bytes are in use from the start
 abbrev pub homePair : Fields → List ℕ
@@ -78,7 +78,7 @@ pub record ComesHome (f : Fields) (cost need : ℕ) (r : Registers) (m : List �
   pub along : Along r m events last memory
   pub home : last .pc ≡ 0
   -- it is the only one
-  pub only : (ds : List Event) (e : Registers) (n : List ℕ) → Along r m ds e n → e .pc ≡ 0 → (ds ≡ events) × (e ≡ last) × (n ≡ memory)
+  pub only : (evs : List Event) (e : Registers) (n : List ℕ) → Along r m evs e n → e .pc ≡ 0 → (evs ≡ events) × (e ≡ last) × (n ≡ memory)
   -- it ends within the certified cycles, with an empty stack
   pub in-time : total events ≤ cost
   pub empty : last .sp ≡ topOf f

@@ -3,7 +3,7 @@
 use Prim.Native.Nat.{ℕ}
 use mathlib.Core.List.{List, [], _∷_, tail}
 use Rattle.memory.specs.Memory.{Store}
-use Rattle.stepper.specs.Trace.{Flow, calls, returns, plain}
+use Rattle.stepper.specs.Flow.{Flow, calls, returns, plain}
 
 abbrev pub addresses : List Store → List ℕ
 addresses [] = []

@@ -4,48 +4,10 @@
 use Prim.Native.Nat.{ℕ, _+_}
 use mathlib.Core.Path.{_≡_}
 use mathlib.Core.List.{List, [], _∷_}
-use Rattle.registers.specs.Word.{wrappingAdd}
 use Rattle.registers.specs.declared.Registers.{Registers}
 use Rattle.memory.specs.Memory.{Store, applied}
-use Rattle.opcodes.specs.Decode.{placeIn, decodeOf}
-use Rattle.instructions.specs.Entry.{formOf}
-use Rattle.opcodes.specs.Tables.{lengthAt}
-use Rattle.opcodes.specs.declared.instruction.Decoded.{Decoded}
-use Rattle.opcodes.specs.declared.instruction.Decoded.the-variants.{Instruction, Nothing}
-use Rattle.instructions.specs.declared.form.Form.{Form}
-use Rattle.instructions.specs.declared.form.Form.the-variants.{Computes, StoresByte, StoresWord, PushesByte, PushesWord, PullsByte, PullsWord, Reserves, Releases, Branches, Jumps, Calls, Returns, MovesSp, Interrupts, Resumes, Waits}
-use Rattle.stepper.specs.Step.{did, fetched, didOf}
-
--- JSR and BSR call, RTS returns
-pub data Flow : Type 0 where
-  calls returns plain : Flow
-
-abbrev pub flowBy : Form → Flow
-flowBy Computes = plain
-flowBy (StoresByte p) = plain
-flowBy (StoresWord p) = plain
-flowBy PushesByte = plain
-flowBy PushesWord = plain
-flowBy PullsByte = plain
-flowBy PullsWord = plain
-flowBy Reserves = plain
-flowBy Releases = plain
-flowBy (Branches t) = plain
-flowBy (Jumps p) = plain
-flowBy (Calls p) = calls
-flowBy Returns = returns
-flowBy MovesSp = plain
-flowBy Interrupts = plain
-flowBy Resumes = plain
-flowBy Waits = plain
-
-abbrev pub flowIn : ℕ → Decoded → ℕ → Flow
-flowIn p Nothing pc = plain
-flowIn p (Instruction a o) pc = flowBy (formOf a o (wrappingAdd pc (lengthAt p)))
-
--- of the instruction that memory has at PC
-unfoldable pub flowOf : List ℕ → ℕ → Flow
-flowOf m pc = let f = fetched m pc in flowIn (placeIn f) (decodeOf f) pc
+use Rattle.stepper.specs.Step.{did, didOf}
+use Rattle.stepper.specs.Flow.{Flow, flowOf}
 
 -- an instruction of a trace: its kind, its stores in order, its cycles, and SP after it
 pub record Event : Type 0 where

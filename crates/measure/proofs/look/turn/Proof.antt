@@ -1,4 +1,4 @@
--- `turn` meets its contract: the step's own answer and memory, and what the kind makes of them.
+-- `turn` meets its contract: the step's own answer and memory, and what the flow makes of them.
 -- Assumes nothing.
 use borrow.Author.Needs.{needs}
 use mathlib.Core.Path.{ap}
@@ -13,14 +13,14 @@ unfolding turnOf
 returns c =
     let s = c .before .before .before .before .before .before in
     let e = ap answerOf (c .before .before .q .given .1) in
-    (simp (← s .step .ensures .0, e, ← s .step .ensures .1, c .after .ensures .0, ← s .before .before .kind-at .ensures), search needs, c .after .ensures .1, c .after .ensures .2)
+    (simp (← s .step .ensures .0, e, ← s .step .ensures .1, c .after .ensures .0, ← s .before .before .flow-at .ensures), search needs, c .after .ensures .1, c .after .ensures .2)
 
 returns-2 : tie.Need-returns-2
 unfolding turnOf
 returns-2 c =
     let s = c .before .before .before .before .before in
     let e = ap answerOf (c .before .enum-told .given .1) in
-    (simp (← s .step .ensures .0, e, ← s .step .ensures .1, c .over .ensures, ← s .before .before .kind-at .ensures), search needs, rw (c .over .ensures) (omega arith), rw (c .over .ensures) (omega arith))
+    (simp (← s .step .ensures .0, e, ← s .step .ensures .1, c .over .ensures, ← s .before .before .flow-at .ensures), search needs, rw (c .over .ensures) (omega arith), rw (c .over .ensures) (omega arith))
 
 pub turn-spec : {M : Type 1} → statement M
 turn-spec =

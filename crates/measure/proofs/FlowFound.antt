@@ -1,4 +1,4 @@
--- The kind of an instruction, by what is found at its first two bytes.
+-- The flow of an instruction, by what is found at its first two bytes.
 -- Assumes nothing.
 use mathlib.Core.Path.{_≡_}
 use mathlib.Core.Bool.{Bool, true, false, cond}
@@ -12,7 +12,7 @@ use Rattle.opcodes.specs.Decode.{Bytes, opcodeSize, instructionOf, decodeAt}
 use Rattle.opcodes.specs.inner.Lookup.{foundOf}
 use Rattle.opcodes.specs.declared.lookup.Found.the-variants as Found
 use Rattle.stepper.specs.Step.{fetched}
-use Rattle.stepper.specs.Trace.{plain, flowIn, flowOf}
+use Rattle.stepper.specs.Flow.{plain, flowIn, flowOf}
 
 small : (p : ℕ) → opcodeSize p ≤ 2
 unfolding opcodeSize
@@ -26,9 +26,9 @@ module _ (m : List ℕ) (pc : ℕ) where
   abbrev pub bytes : Bytes
   bytes = fetched m pc
 
-  pub nowhere-kind : foundOf (bytes 0) (bytes 1) ≡ Found.Nothing → flowOf m pc ≡ plain
+  pub nowhere-flow : foundOf (bytes 0) (bytes 1) ≡ Found.Nothing → flowOf m pc ≡ plain
   unfolding flowOf
-  nowhere-kind h = simp (none-there _ bytes (nowhere-says _ _ h))
+  nowhere-flow h = simp (none-there _ bytes (nowhere-says _ _ h))
 
   module _ {p s e : ℕ} (h : foundOf (bytes 0) (bytes 1) ≡ Found.At p s e) where
     says : Said (bytes 0) (bytes 1) p s e
@@ -37,6 +37,6 @@ module _ (m : List ℕ) (pc : ℕ) where
     pub size-small : s ≤ 2
     size-small = rw (says .1) at (small p)
 
-    pub there-kind : flowOf m pc ≡ flowIn p (instructionOf p (bytes s) (bytes (s + 1)) (bytes (s + 2))) pc
+    pub there-flow : flowOf m pc ≡ flowIn p (instructionOf p (bytes s) (bytes (s + 1)) (bytes (s + 2))) pc
     unfolding flowOf decodeAt
-    there-kind = simp (says .0, ne-eqb _ _ (says .3), says .1)
+    there-flow = simp (says .0, ne-eqb _ _ (says .3), says .1)

@@ -1,4 +1,4 @@
--- `kind_at` meets its contract: the bytes that it reads are those that the step fetches.
+-- `flow_at` meets its contract: the bytes that it reads are those that the step fetches.
 -- Assumes nothing.
 use borrow.Author.Needs.{needs}
 use native.Mathlib.Omega.{arith}
@@ -6,9 +6,9 @@ use mathlib.Core.Path.{_≡_, sym, _∙_}
 use Rattle.opcodes.specs.inner.Lookup.{foundOf}
 use Rattle.opcodes.proofs.Says.{in-tables, entry}
 use Rattle.registers.proofs.Wrap.{plus-zero}
-use Rattle.measure.proofs.Found.{bytes, nowhere-kind, size-small, there-kind}
-use Rattle.measure.proofs.kind.kind_at.Statement.{statement}
-use Rattle.measure.proofs.kind.kind_at.Tie as tie
+use Rattle.measure.proofs.FlowFound.{bytes, nowhere-flow, size-small, there-flow}
+use Rattle.measure.proofs.flow.flow_at.Statement.{statement}
+use Rattle.measure.proofs.flow.flow_at.Tie as tie
 
 -- back to the call
 abbrev called : tie.After-found-of → tie.Start
@@ -32,14 +32,14 @@ add-wrapping-add-2 c =
     let d = p .before .before in
     omega (arith, size-small _ _ (found d ∙ p .place .given .1))
 
-kind-found-requires : tie.Need-kind-found-requires
-kind-found-requires c κs =
+flow-found-requires : tie.Need-flow-found-requires
+flow-found-requires c κs =
     let p = c .before .before .before .before .before .before .before in
     let d = p .before .before in
     let h = found d ∙ p .place .given .1 in (in-tables _ _ h, entry _ _ h)
 
 returns : tie.Need-returns
-returns c = sym (nowhere-kind _ _ (found (c .before .before) ∙ c .enum-told .given .1))
+returns c = sym (nowhere-flow _ _ (found (c .before .before) ∙ c .enum-told .given .1))
 
 returns-2 : tie.Need-returns-2
 returns-2 c =
@@ -49,17 +49,17 @@ returns-2 c =
     let p = u .before .before .before in
     let h = found (p .before .before) ∙ p .place .given .1 in
     simp
-    (there-kind _ _ h, ← u .before .wrapping-add2 .ensures, ← v .before .wrapping-add3 .ensures, ← w .before .wrapping-add4 .ensures, ← u .byte-at3 .ensures, ← v .byte-at4 .ensures, ← w .byte-at5 .ensures)
-    (c .kind-found .ensures)
+    (there-flow _ _ h, ← u .before .wrapping-add2 .ensures, ← v .before .wrapping-add3 .ensures, ← w .before .wrapping-add4 .ensures, ← u .byte-at3 .ensures, ← v .byte-at4 .ensures, ← w .byte-at5 .ensures)
+    (c .flow-found .ensures)
 
-pub kind-at-spec : {M : Type 1} → statement M
-kind-at-spec =
+pub flow-at-spec : {M : Type 1} → statement M
+flow-at-spec =
     tie.close
     (tie.spec (search needs) (search needs) (search needs) (search needs) (λ c κs. search needs) (search needs) (search needs) (search needs) (search needs)
     add-wrapping-add
     (search needs) (search needs)
     add-wrapping-add-2
     (search needs) (search needs)
-    kind-found-requires
+    flow-found-requires
     returns
     returns-2)

@@ -1,11 +1,11 @@
--- `kind_by` meets its contract, form by form.
+-- `flow_by` meets its contract, form by form.
 -- Assumes nothing.
 use borrow.Author.Needs.{needs}
-use Rattle.measure.proofs.kind.kind_by.Statement.{statement}
-use Rattle.measure.proofs.kind.kind_by.Tie as tie
+use Rattle.measure.proofs.flow.flow_by.Statement.{statement}
+use Rattle.measure.proofs.flow.flow_by.Tie as tie
 
-pub kind-by-spec : {M : Type 1} → statement M
-kind-by-spec =
+pub flow-by-spec : {M : Type 1} → statement M
+flow-by-spec =
     tie.close
     (tie.spec
     (search needs) (search needs) (search needs) (search needs) (search needs) (search needs) (search needs) (search needs)
