@@ -8,7 +8,7 @@ use lib.Seq.{take-suc-set}
 use borrow.Author.Tests.{lt-ltb}
 use Rattle.ticket.specs.declared.fields.Mark.{Mark}
 use Rattle.ticket.specs.Fields.{blankMark, listed}
-use Rattle.checks.specs.Sight.{addressesOf}
+use Rattle.checks.specs.inner.AtMark.{addressesOf}
 
 addresses-snoc : (ms : List Mark) (m : Mark) → addressesOf (ms ++ (m ∷ [])) ≡ addressesOf ms ++ (m .address ∷ [])
 addresses-snoc [] m = refl

@@ -17,10 +17,10 @@ use Rattle.ticket.specs.Rules.{Readable}
 use Rattle.commands.specs.Every.Every.{none, more}
 use Rattle.ticket.proofs.Listed.{listed-take}
 use Rattle.rules.specs.Marks.{claimAt}
-use Rattle.checks.specs.Find.{indexOf}
-use Rattle.checks.specs.Cause.{markedSaid}
-use Rattle.checks.specs.Sight.{addressesOf, markedOf}
-use Rattle.checks.proofs.Found.{claim-found}
+use Rattle.checks.specs.inner.Find.{indexOf}
+use Rattle.checks.specs.inner.MarkCause.{markedSaid}
+use Rattle.checks.specs.inner.AtMark.{addressesOf, markedIf}
+use Rattle.checks.proofs.ClaimFound.{claim-found}
 
 every-at : {P : Mark → Type 0} {ms : List Mark} → Every P ms → (i : ℕ) → i < length ms → P (getD ms i blankMark)
 every-at none i h = absurd (omega arith)
@@ -29,7 +29,7 @@ every-at (more r rs) (suc i) h = every-at rs i (omega arith)
 
 -- an index is used only where it is one of a mark
 same-marked : (ms ns : List Mark) (n j : ℕ) → ((i : ℕ) → i < n → getD ms i blankMark ≡ getD ns i blankMark) → (there : Bool) → ltb j n ≡ there
-    → markedOf there (getD ms (cond there j 0) blankMark) ≡ markedOf there (getD ns (cond there j 0) blankMark)
+    → markedIf there (getD ms (cond there j 0) blankMark) ≡ markedIf there (getD ns (cond there j 0) blankMark)
 same-marked ms ns n j same true e = rw (same j (ltb-true j n e))
 same-marked ms ns n j same false e = refl
 
@@ -50,7 +50,7 @@ module _ (t : Ticket) (few : t .count ≤ 4096) (full : length (t .marks) ≡ 40
 
   -- as the code finds it: by the addresses l, the index e of the address a in them, and the index j where e is one of a mark
   pub held-claim : (l : List ℕ) → l ≡ addressesOf (fieldsOf t .marks) → (a e j : ℕ) → e ≡ indexOf l a → j ≡ cond (ltb e (t .count)) e 0
-      → markedSaid (markedOf (ltb e (t .count)) (getD (t .marks) j blankMark)) ≡ claimAt (fieldsOf t .marks) a
+      → markedSaid (markedIf (ltb e (t .count)) (getD (t .marks) j blankMark)) ≡ claimAt (fieldsOf t .marks) a
   held-claim l same a e j at slot =
       let i = indexOf (addressesOf (fieldsOf t .marks)) a in
       let one : e ≡ i = rw (at, same) in

@@ -1,9 +1,9 @@
 pub mod Tests
 pub mod Search
-pub mod Found
+pub mod ClaimFound
 pub mod MarkCause
 pub mod WholeCause
-pub mod Judging
+pub mod VerdictByMarks
 pub mod Held
 pub mod Addresses
 pub mod ShapeFound

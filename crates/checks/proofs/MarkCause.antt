@@ -13,18 +13,18 @@ use Rattle.ticket.specs.Read.{refusal}
 use Rattle.answers.specs.declared.Verdict.{Verdict}
 use Rattle.answers.specs.declared.Verdict.the-variants.{Refuse}
 use Rattle.rules.specs.Marks.{claimAt}
-use Rattle.rules.specs.Checks.{Check, firstOf, all, checksBy}
-use Rattle.checks.specs.declared.shape.Next.{Next}
-use Rattle.checks.specs.declared.shape.Next.the-variants.{One, Two}
-use Rattle.checks.specs.declared.shape.Written.{Written}
-use Rattle.checks.specs.declared.shape.Written.the-variants.{Nowhere, Byte, Word}
+use Rattle.rules.specs.Checks.{Check, firstFailing, all, checksBy}
+use Rattle.checks.specs.declared.shape.Successors.{Successors}
+use Rattle.checks.specs.declared.shape.Successors.the-variants.{One, Two}
+use Rattle.checks.specs.declared.shape.Writes.{Writes}
+use Rattle.checks.specs.declared.shape.Writes.the-variants.{Nowhere, Byte, Word}
 use Rattle.checks.specs.declared.shape.Shape.{Shape}
 use Rattle.checks.specs.declared.shape.Shape.the-variants.{Ordinary, Call, Return, Forbidden, Nothing}
-use Rattle.checks.specs.Said.{nextSaid, writtenSaid, shapeSaid}
-use Rattle.checks.specs.declared.cause.Marked.{Marked}
-use Rattle.checks.specs.declared.cause.Marked.the-variants.{Unmarked, At}
-use Rattle.checks.specs.Cause.{markedSaid, inData, causeOf}
-use Rattle.checks.specs.Sight.{firstIn, secondIn, firstNext, secondNext}
+use Rattle.checks.specs.inner.Said.{successorsSaid, writesSaid, shapeSaid}
+use Rattle.checks.specs.declared.mark.Marked.{Marked}
+use Rattle.checks.specs.declared.mark.Marked.the-variants.{Unmarked, At}
+use Rattle.checks.specs.inner.MarkCause.{markedSaid, inData, markCauseOf}
+use Rattle.checks.specs.inner.AtMark.{firstIn, secondIn, firstNext, secondNext}
 
 -- what follows a cause: the rest where it is 0, or a refusal with it
 abbrev pub causeThen : ℕ → ℕ → Verdict → Verdict
@@ -47,23 +47,23 @@ and-same true = refl
 and-same false = refl
 
 -- one successor stands twice
-all-next : (p : ℕ → Bool) (n : Next) → all p (nextSaid n) ≡ p (firstIn n) && p (secondIn n)
-all-next p (One a) = and-true (p a) ∙ sym (and-same (p a))
-all-next p (Two a b) = simp and-true
+all-successors : (p : ℕ → Bool) (n : Successors) → all p (successorsSaid n) ≡ p (firstIn n) && p (secondIn n)
+all-successors p (One a) = and-true (p a) ∙ sym (and-same (p a))
+all-successors p (Two a b) = simp and-true
 
-all-written : (w : Window) (x : Written) → all (holds w) (writtenSaid x) ≡ inData w x
-all-written w Nowhere = refl
-all-written w (Byte a) = and-true (holds w a)
-all-written w (Word a) = simp and-true
+all-writes : (w : Window) (x : Writes) → all (holds w) (writesSaid x) ≡ inData w x
+all-writes w Nowhere = refl
+all-writes w (Byte a) = and-true (holds w a)
+all-writes w (Word a) = simp and-true
 
 pub mark-cause : (f : Fields) (m : Mark) (s : Shape) (inside : Bool) (a b : Marked) → markedSaid a ≡ claimAt (f .marks) (firstNext s)
     → markedSaid b ≡ claimAt (f .marks) (secondNext s) → (cs : List Check) (v : Verdict)
-    → firstOf (checksBy f m (shapeSaid s) inside ++ cs) v
-    ≡ causeThen (causeOf (f .header .«data») (m .claim) s inside a b) (m .address) (firstOf cs v)
-unfolding causeOf
-mark-cause f m (Ordinary next pushed pulled written cycles) inside Unmarked b p q cs v = simp (all-next, all-written, ← p, then-cond)
-mark-cause f m (Ordinary next pushed pulled written cycles) inside (At x) Unmarked p q cs v = simp (all-next, all-written, ← p, ← q, then-cond)
-mark-cause f m (Ordinary next pushed pulled written cycles) inside (At x) (At y) p q cs v = simp (all-next, all-written, ← p, ← q, then-cond)
+    → firstFailing (checksBy f m (shapeSaid s) inside ++ cs) v
+    ≡ causeThen (markCauseOf (f .header .«data») (m .claim) s inside a b) (m .address) (firstFailing cs v)
+unfolding markCauseOf
+mark-cause f m (Ordinary next pushed pulled written cycles) inside Unmarked b p q cs v = simp (all-successors, all-writes, ← p, then-cond)
+mark-cause f m (Ordinary next pushed pulled written cycles) inside (At x) Unmarked p q cs v = simp (all-successors, all-writes, ← p, ← q, then-cond)
+mark-cause f m (Ordinary next pushed pulled written cycles) inside (At x) (At y) p q cs v = simp (all-successors, all-writes, ← p, ← q, then-cond)
 mark-cause f m (Call target after cycles) inside Unmarked b p q cs v = simp (← p, then-cond)
 mark-cause f m (Call target after cycles) inside (At x) Unmarked p q cs v = simp (← p, ← q, then-cond)
 mark-cause f m (Call target after cycles) inside (At x) (At y) p q cs v = simp (← p, ← q, then-cond)

@@ -9,7 +9,7 @@ use mathlib.Core.List.{List, [], _∷_}
 use lib.ListN.{length, getD}
 use borrow.Author.Tests.{eq-eqb, ne-eqb}
 use Rattle.opcodes.proofs.Order.{le-or-lt}
-use Rattle.checks.specs.Find.{Ascending, indexOf}
+use Rattle.checks.specs.inner.Find.{Ascending, indexOf}
 
 -- an address that stands at i, and at no lower index
 index-here : (l : List ℕ) (a i : ℕ) → i < length l → getD l i 0 ≡ a → ((k : ℕ) → k < i → getD l k 0 < a) → i ≡ indexOf l a

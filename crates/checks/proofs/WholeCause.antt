@@ -3,13 +3,13 @@
 use mathlib.Core.Path.{_≡_}
 use Rattle.ticket.specs.Fields.{Fields}
 use Rattle.rules.specs.Marks.{claimAt}
-use Rattle.rules.specs.Checks.{firstOf, wholeChecks, acceptOf}
-use Rattle.checks.specs.declared.cause.Marked.{Marked}
-use Rattle.checks.specs.declared.cause.Marked.the-variants.{Unmarked, At}
-use Rattle.checks.specs.Cause.{markedSaid}
-use Rattle.checks.specs.Whole.{wholeOf}
+use Rattle.rules.specs.Checks.{firstFailing, wholeChecks, acceptOf}
+use Rattle.checks.specs.declared.mark.Marked.{Marked}
+use Rattle.checks.specs.declared.mark.Marked.the-variants.{Unmarked, At}
+use Rattle.checks.specs.inner.MarkCause.{markedSaid}
+use Rattle.checks.specs.inner.Whole.{wholeOf}
 
 pub whole-cause : (f : Fields) (a : Marked) → markedSaid a ≡ claimAt (f .marks) (f .header .entry)
-    → firstOf (wholeChecks f) (acceptOf (f .header .entry) (claimAt (f .marks) (f .header .entry))) ≡ wholeOf (f .header) a
+    → firstFailing (wholeChecks f) (acceptOf (f .header .entry) (claimAt (f .marks) (f .header .entry))) ≡ wholeOf (f .header) a
 whole-cause f Unmarked e = rw (← e)
 whole-cause f (At c) e = rw (← e)

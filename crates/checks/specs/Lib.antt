@@ -1,5 +1,1 @@
-pub mod Find
-pub mod Cause
-pub mod Whole
-pub mod Sight
-pub mod Said
+pub mod inner

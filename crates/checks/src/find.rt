@@ -1,6 +1,6 @@
 // Where an address stands in a rising list.
 ghost use mathlib.Core.Path.{_≡_};
-ghost use Rattle.checks.specs.Find.{Ascending, indexOf};
+ghost use Rattle.checks.specs.inner.Find.{Ascending, indexOf};
 
 // The list's length where it does not stand there. A binary search.
 pub fn find(addresses: &[u16], a: u16) -> usize

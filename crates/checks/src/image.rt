@@ -7,8 +7,8 @@ ghost use Rattle.opcodes.specs.Tables.{costs, actions, modes, costAt, lengthAt}
 ghost use Rattle.opcodes.specs.inner.Numbers.{actionOf, modeOf};
 ghost use Rattle.opcodes.specs.Decode.{instructionOf};
 ghost use Rattle.rules.specs.Marks.{imageFrom};
-ghost use Rattle.rules.specs.Shape.{shapeIn, shapeOf, sizeOf};
-ghost use Rattle.checks.specs.Said.{shapeSaid};
+ghost use Rattle.rules.specs.Shape.{shapeIn, shapeOf, instructionSize};
+ghost use Rattle.checks.specs.inner.Said.{shapeSaid};
 use crate::shape::Shape;
 use crate::shape::shape_by;
 use commands::command::Window;
@@ -21,7 +21,7 @@ use registers::Cycles;
 use registers::word::wrapping_add;
 
 // A shape, with the size of its instruction in bytes; 0 where there is no instruction.
-pub struct Shaped {
+pub struct SizedShape {
     pub shape: Shape,
     pub size: u16,
 }
@@ -43,7 +43,7 @@ fn shape_found(
     a: u16,
     ta: &[u8; 1024],
     tm: &[u8; 1024],
-) -> Shaped
+) -> SizedShape
     requires { ⌜ place < 1024 ⌝ }
     requires { ⌜ e ≡ costAt place ⌝ }
     requires { ⌜ map actionOf (now ta) ≡ actions ⌝ }
@@ -56,9 +56,9 @@ fn shape_found(
         Decoded::Instruction(act, o) => {
             let f = form_of(act, o, after);
             let shape = shape_by(f, after, Cycles(e % 256));
-            Shaped { shape, size }
+            SizedShape { shape, size }
         }
-        Decoded::Nothing => Shaped {
+        Decoded::Nothing => SizedShape {
             shape: Shape::Nothing,
             size,
         },
@@ -73,16 +73,16 @@ pub fn shape_at(
     tc: &[u16; 1024],
     ta: &[u8; 1024],
     tm: &[u8; 1024],
-) -> Shaped
+) -> SizedShape
     requires { ⌜ code .start ≤ a ⌝ }
     requires { ⌜ now tc ≡ costs ⌝ }
     requires { ⌜ map actionOf (now ta) ≡ actions ⌝ }
     requires { ⌜ map modeOf (now tm) ≡ modes ⌝ }
-    ensures { λ r. ⌜ (shapeSaid (r .shape) ≡ shapeOf (imageFrom code (now (image .entry)) a) a) × (r .size ≡ sizeOf (imageFrom code (now (image .entry)) a)) ⌝ }
+    ensures { λ r. ⌜ (shapeSaid (r .shape) ≡ shapeOf (imageFrom code (now (image .entry)) a) a) × (r .size ≡ instructionSize (imageFrom code (now (image .entry)) a)) ⌝ }
 {
     let at = (a - code.start) as usize;
     match found_of(byte_in(image, at), byte_in(image, at + 1), tc) {
-        Found::Nothing => Shaped {
+        Found::Nothing => SizedShape {
             shape: Shape::Nothing,
             size: 0,
         },

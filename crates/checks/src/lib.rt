@@ -1,8 +1,8 @@
-// An inner crate: the checks of a ticket that was read, and of its image.
+// An inner crate: document 01's causes 9 to 20, of a ticket that was read and of its image.
+mod shape; // what the rules ask of an instruction: successors, bytes pushed and pulled, writes, cycles
+mod image; // the shape of the instruction at an address of an image
 mod find; // an address in a rising list
-mod cause; // causes 10 to 17, at a mark
+mod at_mark; // the instruction at a mark, and the marks of its successors
+mod mark; // causes 10 to 17, at a mark
 mod whole; // causes 18 to 20, and acceptance
-mod sight; // the instruction at a mark, and the marks of its successors
-pub mod judge; // cause 9, each mark in rising address, then the whole
-pub mod shape; // successors, bytes pushed and pulled, writes and cycles
-pub mod image; // the instruction at an address of an image
+pub mod verdict; // cause 9, each mark in rising address, then the whole

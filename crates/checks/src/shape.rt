@@ -3,20 +3,20 @@ ghost use mathlib.Core.Path.{_≡_};
 ghost use mathlib.Core.List.{[], _∷_};
 ghost use Rattle.registers.specs.Word.{wrappingAdd};
 ghost use Rattle.rules.specs.Shape.{ordinary, goesOn, writes, jumps, calls, shapeBy};
-ghost use Rattle.checks.specs.Said.{writtenSaid, shapeSaid};
+ghost use Rattle.checks.specs.inner.Said.{writesSaid, shapeSaid};
 use instructions::form::Form;
 use opcodes::instruction::Address;
 use registers::Cycles;
 use registers::StackBytes;
 
 // The addresses that may come next.
-pub enum Next {
+pub enum Successors {
     One(u16),
     Two(u16, u16),
 }
 
 // What is stored to at a fixed address: nothing, a byte, or a byte and the one after it.
-pub enum Written {
+pub enum Writes {
     Nowhere,
     Byte(u16),
     Word(u16),
@@ -24,7 +24,7 @@ pub enum Written {
 
 pub enum Shape {
     // bytes pushed, bytes pulled
-    Ordinary(Next, StackBytes, StackBytes, Written, Cycles),
+    Ordinary(Successors, StackBytes, StackBytes, Writes, Cycles),
     // JSR and BSR: the target and the following address
     Call(u16, u16, Cycles),
     // RTS
@@ -38,25 +38,25 @@ fn goes_on(after: u16, pushed: u16, pulled: u16, k: Cycles) -> Shape
     ensures { λ r. ⌜ shapeSaid r ≡ goesOn after pushed pulled (k .0) ⌝ }
 {
     Shape::Ordinary(
-        Next::One(after),
+        Successors::One(after),
         StackBytes(pushed),
         StackBytes(pulled),
-        Written::Nowhere,
+        Writes::Nowhere,
         k,
     )
 }
 
-fn writes_to(w: Written, after: u16, k: Cycles) -> Shape
-    ensures { λ r. ⌜ shapeSaid r ≡ ordinary (after ∷ []) 0 0 (writtenSaid w) (k .0) ⌝ }
+fn writes_to(w: Writes, after: u16, k: Cycles) -> Shape
+    ensures { λ r. ⌜ shapeSaid r ≡ ordinary (after ∷ []) 0 0 (writesSaid w) (k .0) ⌝ }
 {
-    Shape::Ordinary(Next::One(after), StackBytes(0), StackBytes(0), w, k)
+    Shape::Ordinary(Successors::One(after), StackBytes(0), StackBytes(0), w, k)
 }
 
 fn writes_byte(p: Address, after: u16, k: Cycles) -> Shape
     ensures { λ r. ⌜ shapeSaid r ≡ writes p (λ a. a ∷ []) after (k .0) ⌝ }
 {
     match p {
-        Address::Fixed(a) => writes_to(Written::Byte(a), after, k),
+        Address::Fixed(a) => writes_to(Writes::Byte(a), after, k),
         Address::IndexedX(_) => Shape::Forbidden,
         Address::IndexedY(_) => Shape::Forbidden,
     }
@@ -66,7 +66,7 @@ fn writes_word(p: Address, after: u16, k: Cycles) -> Shape
     ensures { λ r. ⌜ shapeSaid r ≡ writes p (λ a. a ∷ wrappingAdd a 1 ∷ []) after (k .0) ⌝ }
 {
     match p {
-        Address::Fixed(a) => writes_to(Written::Word(a), after, k),
+        Address::Fixed(a) => writes_to(Writes::Word(a), after, k),
         Address::IndexedX(_) => Shape::Forbidden,
         Address::IndexedY(_) => Shape::Forbidden,
     }
@@ -96,10 +96,10 @@ fn branches_to(t: u16, after: u16, k: Cycles) -> Shape
     ensures { λ r. ⌜ shapeSaid r ≡ ordinary (t ∷ after ∷ []) 0 0 [] (k .0) ⌝ }
 {
     Shape::Ordinary(
-        Next::Two(t, after),
+        Successors::Two(t, after),
         StackBytes(0),
         StackBytes(0),
-        Written::Nowhere,
+        Writes::Nowhere,
         k,
     )
 }

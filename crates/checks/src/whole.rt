@@ -1,7 +1,7 @@
 // Document 01's causes 18 to 20, and acceptance.
 ghost use mathlib.Core.Path.{_≡_};
-ghost use Rattle.checks.specs.Whole.{enteredOf, wholeOf};
-use crate::cause::Marked;
+ghost use Rattle.checks.specs.inner.Whole.{atEntryOf, wholeOf};
+use crate::mark::Marked;
 use answers::Verdict;
 use answers::refuse;
 use commands::command::Claim;
@@ -9,8 +9,8 @@ use commands::prefix::Header;
 use registers::StackBytes;
 
 // With the claim at the entry.
-fn entered(h: Header, c: Claim) -> Verdict
-    ensures { λ r. ⌜ r ≡ enteredOf h c ⌝ }
+fn at_entry(h: Header, c: Claim) -> Verdict
+    ensures { λ r. ⌜ r ≡ atEntryOf h c ⌝ }
 {
     let entry = h.entry as u32;
     let limit = h.limit;
@@ -35,6 +35,6 @@ pub fn whole(h: Header, a: Marked) -> Verdict
 {
     match a {
         Marked::Unmarked => Verdict::Refuse(refuse(18, h.entry as u32)),
-        Marked::At(c) => entered(h, c),
+        Marked::At(c) => at_entry(h, c),
     }
 }

@@ -5,7 +5,7 @@ use mathlib.Core.Bool.{Bool, true, false, cond}
 use mathlib.Core.List.{List}
 use Prim.Native.Nat.{ℕ, zero, suc}
 use Rattle.measure.specs.declared.look.Look.{Look}
-use Rattle.measure.specs.Look.{Turned, turned, turnOf, lookFrom}
+use Rattle.measure.specs.Look.{LookStep, lookStep, lookStepOf, lookFrom}
 
 other : (b : Bool) (x y : Look) → b ≡ false → cond b x y ≡ y
 other b x y h = rw h
@@ -20,6 +20,6 @@ module _ (l : Look) (m : List ℕ) where
   look-over zero h = refl
   look-over (suc n) h = rw h
 
-  pub look-next : (n : ℕ) → l .over ≡ false → (q : Look) (m′ : List ℕ) → turned q m′ ≡ turnOf l m → lookFrom (suc n) l m ≡ lookFrom n q m′
+  pub look-next : (n : ℕ) → l .over ≡ false → (q : Look) (m′ : List ℕ) → lookStep q m′ ≡ lookStepOf l m → lookFrom (suc n) l m ≡ lookFrom n q m′
   unfolding lookFrom
-  look-next n h q m′ e = other (l .over) l _ h ∙ ap (λ (t : Turned). lookFrom n (t .look) (t .memory)) (sym e)
+  look-next n h q m′ e = other (l .over) l _ h ∙ ap (λ (t : LookStep). lookFrom n (t .look) (t .memory)) (sym e)

@@ -46,24 +46,24 @@ abbrev pub onOf : Flow → Look → Registers → ℕ → Look
 onOf d l q k = record { regs = q; lowest = lowerOf (l .lowest) (q .sp); pending = pendingAfter d (l .pending); left = l .left - k; over = ends d (l .pending) }
 
 -- one that the budget does not cover, or that is refused, ends the look
-abbrev pub afterOf : Flow → Look → Answer → Look
-afterOf d l (done q k) = cond (ltb (l .left) (k .0)) (overOf l) (onOf d l q (k .0))
-afterOf d l (refused n p) = overOf l
+abbrev pub lookAfter : Flow → Look → Answer → Look
+lookAfter d l (done q k) = cond (ltb (l .left) (k .0)) (overOf l) (onOf d l q (k .0))
+lookAfter d l (refused n p) = overOf l
 
-pub record Turned : Type 0 where
+pub record LookStep : Type 0 where
   pub look : Look
   pub memory : List ℕ
 
-abbrev pub turned : Look → List ℕ → Turned
-turned l m = record { look = l; memory = m }
+abbrev pub lookStep : Look → List ℕ → LookStep
+lookStep l m = record { look = l; memory = m }
 
-unfoldable pub turnOf : Look → List ℕ → Turned
-turnOf l m = let s = stepOf (l .regs) m in turned (afterOf (flowOf m (l .regs .pc)) l (s .answer)) (s .memory)
+unfoldable pub lookStepOf : Look → List ℕ → LookStep
+lookStepOf l m = let s = stepOf (l .regs) m in lookStep (lookAfter (flowOf m (l .regs .pc)) l (s .answer)) (s .memory)
 
 -- at most n instructions
 unfoldable pub lookFrom : ℕ → Look → List ℕ → Look
 lookFrom zero l m = l
-lookFrom (suc n) l m = cond (l .over) l (let t = turnOf l m in lookFrom n (t .look) (t .memory))
+lookFrom (suc n) l m = cond (l .over) l (let t = lookStepOf l m in lookFrom n (t .look) (t .memory))
 
 -- every instruction takes a cycle or more, so as many turns as there are cycles in the budget are enough
 abbrev pub lookOf : Registers → List ℕ → ℕ → Look

@@ -2,7 +2,7 @@
 ghost use mathlib.Core.Path.{_≡_};
 ghost use Prim.Native.Nat.{_+_, _≤_, _<_};
 ghost use lib.ListN.{length};
-ghost use Rattle.measure.specs.Look.{flowSaid, beginOf, overOf, lowerOf, pendingAfter, ends, afterOf, turned, turnOf, lookOf, measuredOf};
+ghost use Rattle.measure.specs.Look.{flowSaid, beginOf, overOf, lowerOf, pendingAfter, ends, lookAfter, lookStep, lookStepOf, lookOf, measuredOf};
 ghost use Rattle.stepper.specs.Answer.{done};
 use crate::flow::Flow;
 use crate::flow::flow_at;
@@ -77,9 +77,9 @@ fn ends(d: Flow, n: u32) -> bool
 }
 
 // An instruction of this flow led to the registers q in k cycles.
-fn after(d: Flow, l: Look, q: Registers, k: Cycles) -> Look
+fn look_after(d: Flow, l: Look, q: Registers, k: Cycles) -> Look
     requires { ⌜ l .pending + 1 < 4294967296 ⌝ }
-    ensures { λ r. ⌜ (r ≡ afterOf (flowSaid d) l (done q k)) × (r .pending ≤ l .pending + 1) × (r .left ≤ l .left) ⌝ }
+    ensures { λ r. ⌜ (r ≡ lookAfter (flowSaid d) l (done q k)) × (r .pending ≤ l .pending + 1) × (r .left ≤ l .left) ⌝ }
 {
     if l.left < k.0 {
         return over(l);
@@ -94,14 +94,14 @@ fn after(d: Flow, l: Look, q: Registers, k: Cycles) -> Look
 }
 
 // The next instruction.
-fn turn(l: Look, mem: &mut [u8]) -> Look
+fn look_step(l: Look, mem: &mut [u8]) -> Look
     requires { ⌜ (length (now mem) ≡ 65536) × (l .pending + 1 < 4294967296) ⌝ }
-    ensures { λ r. ⌜ (turned r (now (mem .exit)) ≡ turnOf l (now (mem .entry))) × (length (now (mem .exit)) ≡ 65536) × (r .pending ≤ l .pending + 1) × (r .left ≤ l .left) ⌝ }
+    ensures { λ r. ⌜ (lookStep r (now (mem .exit)) ≡ lookStepOf l (now (mem .entry))) × (length (now (mem .exit)) ≡ 65536) × (r .pending ≤ l .pending + 1) × (r .left ≤ l .left) ⌝ }
 {
     let regs = l.regs;
     let d = flow_at(mem, regs.pc);
     match step(regs, mem) {
-        Stepped::Done(q, k) => after(d, l, q, k),
+        Stepped::Done(q, k) => look_after(d, l, q, k),
         Stepped::Refused(_) => over(l),
     }
 }
@@ -116,7 +116,7 @@ fn look_ahead(r: Registers, mem: [u8; 65536], budget: u32) -> Look
         if l.over {
             return l;
         }
-        l = turn(l, &mut m);
+        l = look_step(l, &mut m);
         i += 1;
     }
     l

@@ -9,9 +9,9 @@ use lib.ListN.{length, getD}
 use borrow.Author.Tests.{eq-eqb}
 use Rattle.stepper.specs.Step.{didOf, stepOf}
 use Rattle.stepper.specs.Run.{runOf}
-use Rattle.monitor.specs.Bytes.{unpacked}
-use Rattle.monitor.specs.Calls.{Called, called, ofStep, ofRun, stepBytesOf, runBytesOf}
-use Rattle.monitor.proofs.RoundTrip.{packed-unpacked}
+use Rattle.monitor.specs.RegisterBytes.{unpacked}
+use Rattle.monitor.specs.StepperCalls.{StepperCall, stepperCall, ofStep, ofRun, stepBytesOf, runBytesOf}
+use Rattle.monitor.proofs.RegisterRoundTrip.{packed-unpacked}
 
 module _ (c p : ℕ) (rs m : List ℕ) (h : length rs ≡ 11) where
   step-by : (b : Bool) → eqb (length m) 65536 ≡ b
@@ -26,8 +26,8 @@ module _ (c p : ℕ) (rs m : List ℕ) (h : length rs ≡ 11) where
 
 -- but for the cycles: of a memory of another length the stepper's run answers 0, and the call leaves them as they were
 -- lent
-abbrev pub uncounted : Called → Called
-uncounted a = called (a .outcome) 0 (a .place) (a .registers) (a .memory)
+abbrev pub uncounted : StepperCall → StepperCall
+uncounted a = stepperCall (a .outcome) 0 (a .place) (a .registers) (a .memory)
 
 module _ (c p : ℕ) (rs m : List ℕ) (budget : ℕ) (h : length rs ≡ 11) where
   pub run-agrees : length m ≡ 65536

@@ -19,14 +19,14 @@ use Rattle.stepper.specs.Trace.{total}
 use Rattle.rules.specs.Claim.{Stops, ranHome}
 use Rattle.verdict.specs.declared.Started.{Started}
 use Rattle.verdict.specs.declared.Started.the-variants.{At, Refused}
-use Rattle.verdict.specs.Routine.{Begun, begunOf, Certain}
+use Rattle.verdict.specs.Routine.{AfterStart, startRoutineOf, StartCertified}
 use Rattle.verdict.proofs.Home.{started-comes-home}
-use Rattle.verdict.proofs.BegunNumbered.{begun-numbered}
-use Rattle.monitor.specs.Bytes.{packed, unpacked}
-use Rattle.monitor.specs.Calls.{called, runBytesOf}
-use Rattle.monitor.proofs.RoundTrip.{unpacked-packed}
+use Rattle.verdict.proofs.StartNumbered.{start-numbered}
+use Rattle.monitor.specs.RegisterBytes.{packed, unpacked}
+use Rattle.monitor.specs.StepperCalls.{stepperCall, runBytesOf}
+use Rattle.monitor.proofs.RegisterRoundTrip.{unpacked-packed}
 use Rattle.monitor.specs.Home.{BytesComeHome, StartedBytesComeHome}
-use Rattle.monitor.specs.Routine.{Beginning, beginning, ofStarted, startBytesOf}
+use Rattle.monitor.specs.RoutineCalls.{StartCall, startCall, ofStarted, startBytesOf}
 
 refused-not-home : (n p : ℕ) (r q : Registers) (j k : Cycles) → refused n p r j ≡ home q k → ⊥
 refused-not-home n p r q j k h = let z : _≡_ {A = ℕ} 0 1 = cc in omega arith
@@ -38,59 +38,59 @@ unfolding runOf
 whole-by r m b q n k h true e = refl
 whole-by r m b q n k h false e = absurd (refused-not-home _ _ _ _ _ _ (ap (λ (a : AfterRun). a .answer) (rw e at h)))
 
-module _ (ticket image rs m : List ℕ) (eleven : length rs ≡ 11) (C : Certain ticket image (unpacked rs) m) where
+module _ (ticket image rs m : List ℕ) (eleven : length rs ≡ 11) (C : StartCertified ticket image (unpacked rs) m) where
   whole : eqb (length m) 65536 ≡ true
   whole =
       let H = C .comes-home in
       whole-by _ m _ _ _ _ (H .covered (total (H .events)) (omega arith)) (eqb (length m) 65536) refl
 
   covered : (b c p : ℕ) → let H = C .comes-home in
-      total (H .events) ≤ b → runBytesOf c p rs m b ≡ called 0 (total (H .events)) p (packed (H .last)) (H .memory)
+      total (H .events) ≤ b → runBytesOf c p rs m b ≡ stepperCall 0 (total (H .events)) p (packed (H .last)) (H .memory)
   unfolding runBytesOf
   covered b c p l = rw (eq-eqb _ _ eleven, whole, C .comes-home .covered b l)
 
   stopped : (b c p : ℕ) (S : Stops (unpacked rs) m (C .comes-home .events) b)
-      → runBytesOf c p rs m b ≡ called 100 (total (S .before)) p (packed (S .registers)) (S .memory)
+      → runBytesOf c p rs m b ≡ stepperCall 100 (total (S .before)) p (packed (S .registers)) (S .memory)
   unfolding runBytesOf
   stopped b c p S = rw (eq-eqb _ _ eleven, whole, S .answer)
 
   abbrev bytes-come-home : BytesComeHome ticket image rs m
   bytes-come-home =
       record {
-        certain = C;
+        start = C;
         covered = covered;
         uncovered = λ b c p l. let S = C .comes-home .uncovered b l in (S, stopped b c p S);
       }
 
 -- of the registers that the bytes hold, within the same figures
 from-unpacked : (ticket image rs m : List ℕ) → length rs ≡ 11 → (r : Registers) → r ≡ unpacked rs
-    → (C : Certain ticket image r m)
-    → (H : BytesComeHome ticket image rs m) × (H .certain .cost ≡ C .cost) × (H .certain .stack ≡ C .stack)
+    → (C : StartCertified ticket image r m)
+    → (H : BytesComeHome ticket image rs m) × (H .start .cost ≡ C .cost) × (H .start .stack ≡ C .stack)
 from-unpacked ticket image rs m eleven r e = rw e (λ C. (bytes-come-home ticket image rs m eleven C, refl, refl))
 
 packed-length : (r : Registers) → length (packed r) ≡ 11
 unfolding packed
 packed-length r = refl
 
-pub packed-come-home : (ticket image : List ℕ) (r : Registers) (m : List ℕ) (C : Certain ticket image r m)
-    → (H : BytesComeHome ticket image (packed r) m) × (H .certain .cost ≡ C .cost) × (H .certain .stack ≡ C .stack)
+pub packed-come-home : (ticket image : List ℕ) (r : Registers) (m : List ℕ) (C : StartCertified ticket image r m)
+    → (H : BytesComeHome ticket image (packed r) m) × (H .start .cost ≡ C .cost) × (H .start .stack ≡ C .stack)
 packed-come-home ticket image r m =
     from-unpacked ticket image (packed r) m (packed-length r) r (sym (unpacked-packed r))
 
 module _ (p : ℕ) (ticket image rs m : List ℕ) (bytes : AllBytes ticket) where
-  abbrev b : Begun
-  b = begunOf ticket image (dataOf (unpacked rs)) m
+  abbrev b : AfterStart
+  b = startRoutineOf ticket image (dataOf (unpacked rs)) m
 
-  abbrev Home : Beginning → Type 0
+  abbrev Home : StartCall → Type 0
   Home g = g .outcome ≡ 0 → BytesComeHome ticket image (g .registers) (g .memory)
 
   -- by the answer: 0 is no refusal's number
   home-of : (s : Started) → b .answer ≡ s → Home (ofStarted s p rs (b .memory))
   home-of (At q) h z = packed-come-home ticket image q _ (started-comes-home ticket image bytes _ m q h) .0
-  home-of (Refused r) h z = absurd (omega (arith, z, begun-numbered ticket image _ m r h))
+  home-of (Refused r) h z = absurd (omega (arith, z, start-numbered ticket image _ m r h))
 
   -- by whether there are 11 register bytes
-  home-sized : (eleven : Bool) → Home (cond eleven (ofStarted (b .answer) p rs (b .memory)) (beginning 21 0 rs m))
+  home-sized : (eleven : Bool) → Home (cond eleven (ofStarted (b .answer) p rs (b .memory)) (startCall 21 0 rs m))
   home-sized true z = home-of (b .answer) refl z
   home-sized false z = absurd (omega (arith, z))
 

@@ -1,9 +1,9 @@
-pub mod SlotBytes
-pub mod BytesHome
-pub mod SlotHome
-pub mod Apart
 pub mod Elements
-pub mod RoundTrip
+pub mod RegisterRoundTrip
 pub mod Sized
 pub mod Agrees
-pub mod RepliesApart
+pub mod StepperApart
+pub mod SlotRoundTrip
+pub mod BytesHome
+pub mod SlotHome
+pub mod RoutineApart

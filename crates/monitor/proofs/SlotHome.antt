@@ -18,12 +18,12 @@ use Rattle.verdict.specs.declared.Admission.the-variants.{Granted, Refused}
 use Rattle.verdict.specs.Admission.{admittedOf}
 use Rattle.verdict.specs.Start.{loadedOf}
 use Rattle.verdict.proofs.Home.{admitted-comes-home}
-use Rattle.verdict.proofs.BegunNumbered.{admission-numbered}
-use Rattle.monitor.specs.Bytes.{packed, unpacked}
+use Rattle.verdict.proofs.StartNumbered.{admission-numbered}
+use Rattle.monitor.specs.RegisterBytes.{packed, unpacked}
 use Rattle.monitor.specs.Slot.{slotOf}
-use Rattle.monitor.specs.Routine.{beginning, Filling, filling, ofAdmission, certifyBytesOf, startSlotOf}
+use Rattle.monitor.specs.RoutineCalls.{startCall, CertifyCall, certifyCall, ofAdmission, certifyBytesOf, startSlotOf}
 use Rattle.monitor.specs.Home.{SlotComesHome, FilledSlotComesHome, StartsFromFilledSlot}
-use Rattle.monitor.proofs.SlotBytes.{slot-length, header-in-slot, cost-in-slot, stack-in-slot}
+use Rattle.monitor.proofs.SlotRoundTrip.{slot-length, header-in-slot, cost-in-slot, stack-in-slot}
 use Rattle.monitor.proofs.BytesHome.{packed-come-home}
 
 module _ (ticket image : List ℕ) (bytes : AllBytes ticket) where
@@ -35,7 +35,7 @@ module _ (ticket image : List ℕ) (bytes : AllBytes ticket) where
       let S = admitted-comes-home ticket image bytes h cost stack e (dataOf (unpacked rs)) m whole in
       let H = packed-come-home ticket image (S .0) (loadedOf h image m) (S .2) in
       let slot = slotOf h cost stack in
-      let started : startSlotOf p slot image rs m ≡ beginning 0 p (packed (S .0)) (loadedOf h image m) =
+      let started : startSlotOf p slot image rs m ≡ startCall 0 p (packed (S .0)) (loadedOf h image m) =
       rw (header-in-slot h cost stack, eq-eqb _ _ (slot-length h cost stack), eq-eqb _ _ eleven, S .1) in
       rw started (
         refl,
@@ -45,7 +45,7 @@ module _ (ticket image : List ℕ) (bytes : AllBytes ticket) where
       )
 
   module _ (p : ℕ) (slot : List ℕ) where
-    abbrev Home : Filling → Type 0
+    abbrev Home : CertifyCall → Type 0
     Home f = f .outcome ≡ 0 → SlotComesHome ticket image (f .slot)
 
     -- by what is admitted: 0 is no refusal's number
@@ -54,7 +54,7 @@ module _ (ticket image : List ℕ) (bytes : AllBytes ticket) where
     home-of (Refused r) e z = absurd (omega (arith, z, admission-numbered ticket image r e))
 
     -- by whether there are 24 slot bytes
-    home-sized : (sized : Bool) → Home (cond sized (ofAdmission (admittedOf ticket image) p slot) (filling 21 0 slot))
+    home-sized : (sized : Bool) → Home (cond sized (ofAdmission (admittedOf ticket image) p slot) (certifyCall 21 0 slot))
     home-sized true z = home-of (admittedOf ticket image) refl z
     home-sized false z = absurd (omega (arith, z))
 

@@ -7,22 +7,22 @@ use lib.ListN.{length}
 use Rattle.commands.specs.Number.{AllBytes}
 use Rattle.stepper.specs.Trace.{total}
 use Rattle.rules.specs.Claim.{Stops}
-use Rattle.verdict.specs.Routine.{Certain}
-use Rattle.monitor.specs.Bytes.{packed, unpacked}
-use Rattle.monitor.specs.Calls.{called, runBytesOf}
+use Rattle.verdict.specs.Routine.{StartCertified}
+use Rattle.monitor.specs.RegisterBytes.{packed, unpacked}
+use Rattle.monitor.specs.StepperCalls.{stepperCall, runBytesOf}
 use Rattle.monitor.specs.Slot.{costIn, stackIn}
-use Rattle.monitor.specs.Routine.{startBytesOf, filling, certifyBytesOf, startSlotOf}
+use Rattle.monitor.specs.RoutineCalls.{startBytesOf, certifyCall, certifyBytesOf, startSlotOf}
 
 -- from the register bytes rs and the memory m the routine comes home; and so does C's run on them, whatever is lent as
 -- cycles c and place p: for every budget b that covers the way home it answers home, with the way's cycles, and the
 -- registers and the memory at its end; for every other budget spent, as far along the way as the budget goes
 pub record BytesComeHome (ticket image rs m : List ℕ) : Type 0 where
-  pub certain : Certain ticket image (unpacked rs) m
-  pub covered : (b c p : ℕ) → let H = certain .comes-home in
-      total (H .events) ≤ b → runBytesOf c p rs m b ≡ called 0 (total (H .events)) p (packed (H .last)) (H .memory)
-  pub uncovered : (b c p : ℕ) → b < total (certain .comes-home .events)
-      → (S : Stops (unpacked rs) m (certain .comes-home .events) b)
-      × (runBytesOf c p rs m b ≡ called 100 (total (S .before)) p (packed (S .registers)) (S .memory))
+  pub start : StartCertified ticket image (unpacked rs) m
+  pub covered : (b c p : ℕ) → let H = start .comes-home in
+      total (H .events) ≤ b → runBytesOf c p rs m b ≡ stepperCall 0 (total (H .events)) p (packed (H .last)) (H .memory)
+  pub uncovered : (b c p : ℕ) → b < total (start .comes-home .events)
+      → (S : Stops (unpacked rs) m (start .comes-home .events) b)
+      × (runBytesOf c p rs m b ≡ stepperCall 100 (total (S .before)) p (packed (S .registers)) (S .memory))
 
 -- what is judged and started comes home
 abbrev pub StartedBytesComeHome : (place : ℕ) (ticket image registers memory : List ℕ) → Type 0
@@ -37,8 +37,8 @@ SlotComesHome ticket image slot =
     → let b = startSlotOf p slot image rs m in
     (b .outcome ≡ 0)
     × (H : BytesComeHome ticket image (b .registers) (b .memory))
-    × (H .certain .cost ≡ costIn slot)
-    × (H .certain .stack ≡ stackIn slot)
+    × (H .start .cost ≡ costIn slot)
+    × (H .start .stack ≡ stackIn slot)
 
 -- a slot that was filled comes home
 abbrev pub FilledSlotComesHome : (place : ℕ) (ticket image slot : List ℕ) → Type 0
@@ -47,7 +47,7 @@ FilledSlotComesHome p ticket image bs =
 
 -- the slot is what the call that fills one left there for this image, when it accepted some ticket
 abbrev pub FilledFor : (ticket image slot : List ℕ) → Type 0
-FilledFor ticket image slot = (p : ℕ) × (old : List ℕ) × (certifyBytesOf p ticket image old ≡ filling 0 p slot)
+FilledFor ticket image slot = (p : ℕ) × (old : List ℕ) × (certifyBytesOf p ticket image old ≡ certifyCall 0 p slot)
 
 -- so every start from such a slot comes home
 abbrev pub StartsFromFilledSlot : (slot image : List ℕ) → Type 0

@@ -1,6 +1,7 @@
+pub mod BigEndian
+pub mod RegisterBytes
+pub mod StepperCalls
 pub mod Slot
-pub mod Routine
+pub mod RoutineCalls
 pub mod Home
-pub mod Outcome
-pub mod Bytes
-pub mod Calls
+pub mod inner

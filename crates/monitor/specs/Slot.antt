@@ -1,19 +1,12 @@
 -- The slot: what a start needs of a routine that was judged, and the certified figures, as 24 bytes, high byte first.
 -- Assumes nothing.
-use Prim.Native.Nat.{ℕ, _+_, _*_, _/_, _%_}
-use mathlib.Core.List.{List, [], _∷_, _++_}
+use Prim.Native.Nat.{ℕ, _+_}
+use mathlib.Core.List.{List, _++_}
 use Rattle.registers.specs.declared.Cycles.{Cycles}
 use Rattle.registers.specs.declared.StackBytes.{StackBytes}
 use Rattle.commands.specs.declared.command.Window.{Window}
 use Rattle.commands.specs.declared.prefix.Header.{Header}
-use Rattle.monitor.specs.Bytes.{wordIn, withWord}
-
--- a number's two bytes, and its four
-abbrev pub wordBytes : ℕ → List ℕ
-wordBytes v = v / 256 ∷ v % 256 ∷ []
-
-abbrev pub longBytes : ℕ → List ℕ
-longBytes v = wordBytes (v / 65536) ++ wordBytes (v % 65536)
+use Rattle.monitor.specs.BigEndian.{wordBytes, longBytes, wordIn, longIn}
 
 abbrev pub windowBytes : Window → List ℕ
 windowBytes w = wordBytes (w .start) ++ wordBytes (w .length)
@@ -24,17 +17,7 @@ slotOf h cost stack =
     windowBytes (h .code) ++ windowBytes (h .«data») ++ windowBytes (h .stack)
     ++ wordBytes (h .entry) ++ longBytes (h .limit .0) ++ longBytes (cost .0) ++ wordBytes (stack .0)
 
--- stored there
-abbrev pub withLong : List ℕ → ℕ → ℕ → List ℕ
-withLong bs i v = withWord (withWord bs i (v / 65536)) (i + 2) (v % 65536)
-
-abbrev pub withWindow : List ℕ → ℕ → Window → List ℕ
-withWindow bs i w = withWord (withWord bs i (w .start)) (i + 2) (w .length)
-
 -- what slot bytes say, whatever they are
-abbrev pub longIn : List ℕ → ℕ → ℕ
-longIn bs i = wordIn bs i * 65536 + wordIn bs (i + 2)
-
 abbrev pub windowIn : List ℕ → ℕ → Window
 windowIn bs i = record { start = wordIn bs i; length = wordIn bs (i + 2) }
 

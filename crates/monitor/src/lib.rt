@@ -3,29 +3,29 @@
 ghost use mathlib.Core.Path.{_≡_};
 ghost use Rattle.rules.specs.Checks.{verdictOf};
 ghost use Rattle.verdict.specs.Promise.{Promised};
-ghost use Rattle.monitor.specs.Calls.{called, resetBytesOf, stepBytesOf, runBytesOf};
-ghost use Rattle.monitor.specs.Routine.{judged, ofVerdict, beginning, startBytesOf};
-ghost use Rattle.monitor.specs.Routine.{filling, certifyBytesOf, startSlotOf};
+ghost use Rattle.monitor.specs.StepperCalls.{stepperCall, resetBytesOf, stepBytesOf, runBytesOf};
+ghost use Rattle.monitor.specs.RoutineCalls.{verdictCall, ofVerdict, startCall, startBytesOf, certifyCall, certifyBytesOf, startSlotOf};
 ghost use Rattle.monitor.specs.Home.{StartedBytesComeHome, FilledSlotComesHome, StartsFromFilledSlot};
-use crate::bytes::pack;
+use crate::register_bytes::pack;
 use answers::Verdict;
 use registers::Registers;
 use verdict::verdict;
 
-mod routine; // a routine judged and started, and the number that a call answers
+mod big_endian; // numbers in lent bytes, high byte first
+mod register_bytes; // the registers as 11 bytes
+mod stepper_calls; // a step and a run, and the numbers that a call answers
+mod routine_calls; // a routine judged and started, and the number that a call answers
 mod slot; // a routine judged into a slot, and started from it
-pub mod bytes; // the registers as 11 bytes
-pub mod calls; // a step and a run, and the numbers that a call answers
 
 #[no_mangle]
 pub extern "C" fn jugrond_reset(regs: &mut [u8]) -> u32
     ensures { λ q. ⌜ (q ≡ resetBytesOf (now (regs .entry)) .outcome) × (now (regs .exit) ≡ resetBytesOf (now (regs .entry)) .registers) ⌝ }
 {
     if regs.len() != 11 {
-        return calls::BAD_LENGTH;
+        return stepper_calls::BAD_LENGTH;
     }
     pack(Registers::reset(), regs);
-    calls::DONE
+    stepper_calls::DONE
 }
 
 // One instruction.
@@ -36,10 +36,10 @@ pub extern "C" fn jugrond_step(
     cycles: &mut u32,
     place: &mut u16,
 ) -> u32
-    ensures { λ q. ⌜ called q (now (cycles .exit)) (now (place .exit)) (now (regs .exit)) (now (mem .exit))
+    ensures { λ q. ⌜ stepperCall q (now (cycles .exit)) (now (place .exit)) (now (regs .exit)) (now (mem .exit))
         ≡ stepBytesOf (now (cycles .entry)) (now (place .entry)) (now (regs .entry)) (now (mem .entry)) ⌝ }
 {
-    calls::answer(calls::step_on(regs, mem), cycles, place)
+    stepper_calls::answer(stepper_calls::step_on(regs, mem), cycles, place)
 }
 
 // Instructions until home, a refusal, or one that would pass the budget; what was done before a refusal stays done.
@@ -51,10 +51,10 @@ pub extern "C" fn jugrond_run(
     cycles: &mut u32,
     place: &mut u16,
 ) -> u32
-    ensures { λ q. ⌜ called q (now (cycles .exit)) (now (place .exit)) (now (regs .exit)) (now (mem .exit))
+    ensures { λ q. ⌜ stepperCall q (now (cycles .exit)) (now (place .exit)) (now (regs .exit)) (now (mem .exit))
         ≡ runBytesOf (now (cycles .entry)) (now (place .entry)) (now (regs .entry)) (now (mem .entry)) budget ⌝ }
 {
-    calls::answer(calls::run_on(regs, mem, budget), cycles, place)
+    stepper_calls::answer(stepper_calls::run_on(regs, mem, budget), cycles, place)
 }
 
 // The verdict on a routine. An acceptance writes entry, cost and stack, a refusal its place.
@@ -67,7 +67,7 @@ pub extern "C" fn jugrond_verdict(
     stack: &mut u16,
     place: &mut u32,
 ) -> u32
-    ensures { λ q. ⌜ (judged q (now (entry .exit)) (now (cost .exit)) (now (stack .exit)) (now (place .exit))
+    ensures { λ q. ⌜ (verdictCall q (now (entry .exit)) (now (cost .exit)) (now (stack .exit)) (now (place .exit))
         ≡ ofVerdict (verdictOf (now (ticket .entry)) (now (image .entry)))
         (now (entry .entry)) (now (cost .entry)) (now (stack .entry)) (now (place .entry)))
         × Promised (now (ticket .entry)) (now (image .entry)) ⌝ }
@@ -77,7 +77,7 @@ pub extern "C" fn jugrond_verdict(
             *entry = address;
             *cost = cycles.0;
             *stack = bytes.0;
-            calls::DONE
+            stepper_calls::DONE
         }
         Verdict::Refuse(x) => {
             *place = x.place;
@@ -96,13 +96,13 @@ pub extern "C" fn jugrond_start(
     mem: &mut [u8],
     place: &mut u32,
 ) -> u32
-    ensures { λ q. ⌜ (beginning q (now (place .exit)) (now (regs .exit)) (now (mem .exit))
+    ensures { λ q. ⌜ (startCall q (now (place .exit)) (now (regs .exit)) (now (mem .exit))
         ≡ startBytesOf (now (place .entry)) (now (ticket .entry)) (now (image .entry))
         (now (regs .entry)) (now (mem .entry)))
         × StartedBytesComeHome (now (place .entry)) (now (ticket .entry)) (now (image .entry))
         (now (regs .entry)) (now (mem .entry)) ⌝ }
 {
-    routine::answer(routine::start_on(ticket, image, regs, mem), place)
+    routine_calls::answer(routine_calls::start_on(ticket, image, regs, mem), place)
 }
 
 // Judges a routine and, where it is accepted, fills the slot: every start from it comes home.
@@ -113,11 +113,11 @@ pub extern "C" fn jugrond_certify(
     slot: &mut [u8],
     place: &mut u32,
 ) -> u32
-    ensures { λ q. ⌜ (filling q (now (place .exit)) (now (slot .exit))
+    ensures { λ q. ⌜ (certifyCall q (now (place .exit)) (now (slot .exit))
         ≡ certifyBytesOf (now (place .entry)) (now (ticket .entry)) (now (image .entry)) (now (slot .entry)))
         × FilledSlotComesHome (now (place .entry)) (now (ticket .entry)) (now (image .entry)) (now (slot .entry)) ⌝ }
 {
-    routine::answer(slot::certify_into(ticket, image, slot), place)
+    routine_calls::answer(slot::certify_into(ticket, image, slot), place)
 }
 
 // Starts the routine that a slot was filled for, without judging it: from a slot that was filled for this image it
@@ -130,10 +130,10 @@ pub extern "C" fn jugrond_start_certified(
     mem: &mut [u8],
     place: &mut u32,
 ) -> u32
-    ensures { λ q. ⌜ (beginning q (now (place .exit)) (now (regs .exit)) (now (mem .exit))
+    ensures { λ q. ⌜ (startCall q (now (place .exit)) (now (regs .exit)) (now (mem .exit))
         ≡ startSlotOf (now (place .entry)) (now (slot .entry)) (now (image .entry))
         (now (regs .entry)) (now (mem .entry)))
         × StartsFromFilledSlot (now (slot .entry)) (now (image .entry)) ⌝ }
 {
-    routine::answer(slot::start_from(slot, image, regs, mem), place)
+    routine_calls::answer(slot::start_from(slot, image, regs, mem), place)
 }

@@ -11,7 +11,7 @@ use Rattle.registers.specs.declared.StackBytes.{StackBytes}
 use Rattle.answers.specs.declared.Refusal.{Refusal}
 use Rattle.answers.specs.declared.Verdict.{Verdict}
 use Rattle.answers.specs.declared.Verdict.the-variants.{Accept, Refuse}
-use Rattle.rules.specs.Checks.{Check, firstOf}
+use Rattle.rules.specs.Checks.{Check, firstFailing}
 
 -- every check of a list
 abbrev pub Passes : List Check → Type 0
@@ -30,6 +30,6 @@ module _ (e : ℕ) (c : Cycles) (s : StackBytes) where
   cond-says true v r = (λ h. (refl, h), λ h. h .1)
   cond-says false v r = (λ h. absurd (refuses r h), λ h. absurd (false≢true (h .0)))
 
-  pub first-says : (cs : List Check) (v : Verdict) → (firstOf cs v ≡ Accept e c s) ↔ (Passes cs × (v ≡ Accept e c s))
+  pub first-says : (cs : List Check) (v : Verdict) → (firstFailing cs v ≡ Accept e c s) ↔ (Passes cs × (v ≡ Accept e c s))
   first-says [] v = (λ h. (tt, h), λ h. h .1)
   first-says (k ∷ cs) v = simp (cond-says, first-says cs v) (λ h. search, λ h. search)

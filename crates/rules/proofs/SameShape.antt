@@ -13,7 +13,7 @@ use Rattle.opcodes.proofs.Local.{local}
 use Rattle.opcodes.proofs.Says.{none-there}
 use Rattle.commands.specs.declared.command.Window.{Window}
 use Rattle.stepper.specs.Step.{fetched}
-use Rattle.rules.specs.Shape.{nothing, shapeOf, sizeOf}
+use Rattle.rules.specs.Shape.{nothing, shapeOf, instructionSize}
 use Rattle.rules.specs.Marks.{imageFrom}
 
 no-shape : (f : Bytes) (a : ℕ) → costAt (placeIn f) ≡ 0 → shapeOf f a ≡ nothing
@@ -21,9 +21,9 @@ unfolding shapeOf
 no-shape f a z = simp (none-there _ f z)
 
 pub same-shape : (code : Window) (image m : List ℕ) (a : ℕ) → (shapeOf (imageFrom code image a) a ≡ nothing → ⊥) → code .start ≤ a
-    → a + sizeOf (imageFrom code image a) ≤ code .start + code .length → code .start + code .length ≤ 65536 → length image ≡ code .length
+    → a + instructionSize (imageFrom code image a) ≤ code .start + code .length → code .start + code .length ≤ 65536 → length image ≡ code .length
     → ((i : ℕ) → i < length image → byteAt m (code .start + i) ≡ getD image i 0) → shapeOf (fetched m a) a ≡ shapeOf (imageFrom code image a) a
-unfolding shapeOf sizeOf wrappingAdd
+unfolding shapeOf instructionSize wrappingAdd
 same-shape code image m a there from within fits whole loaded =
     let f = imageFrom code image a in
     let place : (i : ℕ) → i < lengthAt (placeIn f) → code .start + (a - code .start + i) ≡ wrappingAdd a i = λ i h. omega arith in

@@ -11,13 +11,13 @@ use Rattle.ticket.specs.Rules.{Readable}
 use Rattle.answers.specs.declared.Verdict.the-variants.{Accept}
 use Rattle.rules.specs.Marks.{claimAt}
 use Rattle.rules.specs.Rules.{Accepted}
-use Rattle.rules.specs.Checks.{judgedOf}
+use Rattle.rules.specs.Checks.{verdictOn}
 use Rattle.rules.proofs.Passes.{append-says, first-says}
 use Rattle.rules.proofs.MarkChecks.{tests, marked, marks-says}
 
-pub accepted : (f : Fields) (image : List ℕ) → Readable f → (e : ℕ) (c : Cycles) (s : StackBytes) → judgedOf f image ≡ Accept e c s
+pub accepted : (f : Fields) (image : List ℕ) → Readable f → (e : ℕ) (c : Cycles) (s : StackBytes) → verdictOn f image ≡ Accept e c s
     → (A : Accepted f image) × (e ≡ f .header .entry) × (c ≡ A .start .cost) × (s .0 ≡ A .start .need .0 + 2)
-unfolding judgedOf
+unfolding verdictOn
 accepted f image r e c s j =
     let h = simp (first-says, append-says, marks-says, tests) at j in
     let k = marked (claimAt (f .marks) (f .header .entry)) (h .0 .1 .1 .0 .0) in

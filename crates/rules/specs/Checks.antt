@@ -13,7 +13,7 @@ use Rattle.ticket.specs.Fields.{Fields, Outcome, read, refused}
 use Rattle.ticket.specs.Read.{refusal, readOf}
 use Rattle.answers.specs.declared.Verdict.{Verdict}
 use Rattle.answers.specs.declared.Verdict.the-variants.{Accept, Refuse}
-use Rattle.rules.specs.Shape.{Shape, ordinary, call, return, forbidden, nothing, shapeOf, sizeOf}
+use Rattle.rules.specs.Shape.{Shape, ordinary, call, return, forbidden, nothing, shapeOf, instructionSize}
 use Rattle.rules.specs.Marks.{claimAt, imageFrom}
 
 -- a test, with the number of its cause and its place
@@ -26,9 +26,9 @@ abbrev pub check : ℕ → ℕ → Bool → Check
 check n p b = record { number = n; place = p; passes = b }
 
 -- the first that fails, or what follows if none does
-abbrev pub firstOf : List Check → Verdict → Verdict
-firstOf [] v = v
-firstOf (c ∷ cs) v = cond (c .passes) (firstOf cs v) (Refuse (refusal (c .number) (c .place)))
+abbrev pub firstFailing : List Check → Verdict → Verdict
+firstFailing [] v = v
+firstFailing (c ∷ cs) v = cond (c .passes) (firstFailing cs v) (Refuse (refusal (c .number) (c .place)))
 
 abbrev pub all : (ℕ → Bool) → List ℕ → Bool
 all p [] = true
@@ -146,7 +146,7 @@ checksBy f m s inside =
 unfoldable pub checksAt : Fields → List ℕ → Mark → List Check
 checksAt f image m =
     let bytes = imageFrom (f .header .code) image (m .address) in
-    checksBy f m (shapeOf bytes (m .address)) (leb (m .address + sizeOf bytes) (pastOf (f .header .code)))
+    checksBy f m (shapeOf bytes (m .address)) (leb (m .address + instructionSize bytes) (pastOf (f .header .code)))
 
 -- in rising address, as the marks are
 abbrev pub checksOfMarks : Fields → List ℕ → List Mark → List Check
@@ -172,12 +172,12 @@ abbrev pub acceptOf : ℕ → Option Claim → Verdict
 acceptOf entry none = Refuse (refusal 18 entry)
 acceptOf entry (some c) = Accept entry (c .cost) (record { 0 = c .need .0 + 2 })
 
-unfoldable pub judgedOf : Fields → List ℕ → Verdict
-judgedOf f image = firstOf (checksOf f image) (acceptOf (f .header .entry) (claimAt (f .marks) (f .header .entry)))
+unfoldable pub verdictOn : Fields → List ℕ → Verdict
+verdictOn f image = firstFailing (checksOf f image) (acceptOf (f .header .entry) (claimAt (f .marks) (f .header .entry)))
 
 abbrev pub verdictBy : Outcome → List ℕ → Verdict
 verdictBy (refused r) image = Refuse r
-verdictBy (read f) image = judgedOf f image
+verdictBy (read f) image = verdictOn f image
 
 -- of a ticket's bytes and an image's: 1 to 8 from reading, then 9, then 10 to 17 at each mark, then 18 to 20
 unfoldable pub verdictOf : List ℕ → List ℕ → Verdict

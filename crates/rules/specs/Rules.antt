@@ -14,7 +14,7 @@ use Rattle.ticket.specs.Write.{bytesOf}
 use Rattle.ticket.specs.RoundTrip.{FitsFields}
 use Rattle.commands.specs.Every.{Every}
 use Rattle.ticket.specs.Rules.{In, Readable}
-use Rattle.rules.specs.Shape.{Shape, ordinary, call, return, forbidden, nothing, shapeOf, sizeOf}
+use Rattle.rules.specs.Shape.{Shape, ordinary, call, return, forbidden, nothing, shapeOf, instructionSize}
 use Rattle.rules.specs.Marks.{claimAt, imageFrom}
 
 -- at a successor of an ordinary instruction
@@ -54,7 +54,7 @@ RulesBy f k forbidden = ⊥
 RulesBy f k nothing = ⊥
 
 pub record RulesAt (f : Fields) (image : List ℕ) (m : Mark) : Type 0 where
-  pub within : m .address + sizeOf (imageFrom (f .header .code) image (m .address)) ≤ f .header .code .start + f .header .code .length
+  pub within : m .address + instructionSize (imageFrom (f .header .code) image (m .address)) ≤ f .header .code .start + f .header .code .length
   pub rules : RulesBy f (m .claim) (shapeOf (imageFrom (f .header .code) image (m .address)) (m .address))
 
 pub record Accepted (f : Fields) (image : List ℕ) : Type 0 where

@@ -74,5 +74,5 @@ unfoldable pub shapeOf : Bytes → ℕ → Shape
 shapeOf f a = shapeIn (placeIn f) (decodeOf f) a
 
 -- how many bytes it has
-unfoldable pub sizeOf : Bytes → ℕ
-sizeOf f = lengthAt (placeIn f)
+unfoldable pub instructionSize : Bytes → ℕ
+instructionSize f = lengthAt (placeIn f)

@@ -19,21 +19,21 @@ use Rattle.ticket.specs.Read.{refusal, readOf}
 use Rattle.ticket.proofs.Accepts.{read-rules}
 use Rattle.answers.specs.declared.Verdict.{Verdict}
 use Rattle.answers.specs.declared.Verdict.the-variants.{Accept, Refuse}
-use Rattle.rules.specs.Checks.{judgedOf, verdictBy, verdictOf}
+use Rattle.rules.specs.Checks.{verdictOn, verdictBy, verdictOf}
 use Rattle.rules.proofs.Sound.{accepted}
 use Rattle.rules.proofs.Demand.{comes-home}
 use Rattle.verdict.specs.declared.Admission.{Admission}
 use Rattle.verdict.specs.declared.Admission.the-variants as Admission
 use Rattle.verdict.specs.declared.Started.the-variants.{At, Refused}
 use Rattle.verdict.specs.Admission.{admittedIf, admittedBy, admittedOf, verdictIn}
-use Rattle.verdict.specs.Routine.{Begun, begun, begunBy, begunOf}
-use Rattle.verdict.specs.Routine.{Certain, StartedComesHome, StartComesHome, AdmittedComesHome}
+use Rattle.verdict.specs.Routine.{AfterStart, afterStart, startRoutineBy, startRoutineOf}
+use Rattle.verdict.specs.Routine.{StartCertified, StartedComesHome, StartComesHome, AdmittedComesHome}
 use Rattle.verdict.proofs.Claimed.{starts-as-claimed}
 
 module _ (ticket image : List ℕ) (bytes : AllBytes ticket) where
   -- of the fields that were read and accepted
   start-comes-home : (f : Fields) → readOf ticket ≡ read f → (e : ℕ) (c : Cycles) (k : StackBytes)
-      → judgedOf f image ≡ Accept e c k
+      → verdictOn f image ≡ Accept e c k
       → (d : Data) (m : List ℕ) → length m ≡ 65536 → StartComesHome ticket image (f .header) c k d m
   start-comes-home f h e c k j d m size =
       let R = read-rules ticket f bytes h in
@@ -70,7 +70,7 @@ module _ (ticket image : List ℕ) (bytes : AllBytes ticket) where
   Homeward (Admission.Refused r) = Unit
 
   -- by the verdict on the fields that were read
-  homeward-if : (f : Fields) → readOf ticket ≡ read f → (v : Verdict) → judgedOf f image ≡ v
+  homeward-if : (f : Fields) → readOf ticket ≡ read f → (v : Verdict) → verdictOn f image ≡ v
       → Homeward (admittedIf v (f .header))
   homeward-if f h (Refuse x) j = tt
   homeward-if f h (Accept e c k) j = start-comes-home f h e c k j
@@ -78,14 +78,14 @@ module _ (ticket image : List ℕ) (bytes : AllBytes ticket) where
   -- by what reading the ticket gives
   homeward-by : (o : Outcome) → readOf ticket ≡ o → Homeward (admittedBy o image)
   homeward-by (refused x) h = tt
-  homeward-by (read f) h = homeward-if f h (judgedOf f image) refl
+  homeward-by (read f) h = homeward-if f h (verdictOn f image) refl
 
   homeward : Homeward (admittedOf ticket image)
   unfolding admittedOf
   homeward = homeward-by (readOf ticket) refl
 
   -- an admission is the verdict, by the same cases
-  verdict-if : (f : Fields) → readOf ticket ≡ read f → (v : Verdict) → judgedOf f image ≡ v
+  verdict-if : (f : Fields) → readOf ticket ≡ read f → (v : Verdict) → verdictOn f image ≡ v
       → v ≡ verdictIn (admittedIf v (f .header))
   verdict-if f h (Refuse x) j = refl
   verdict-if f h (Accept e c k) j =
@@ -93,7 +93,7 @@ module _ (ticket image : List ℕ) (bytes : AllBytes ticket) where
 
   verdict-by : (o : Outcome) → readOf ticket ≡ o → verdictBy o image ≡ verdictIn (admittedBy o image)
   verdict-by (refused x) h = refl
-  verdict-by (read f) h = verdict-if f h (judgedOf f image) refl
+  verdict-by (read f) h = verdict-if f h (verdictOn f image) refl
 
 pub admitted-comes-home : (ticket image : List ℕ) → AllBytes ticket → AdmittedComesHome ticket image
 admitted-comes-home ticket image bytes h c k e = rw e at (homeward ticket image bytes)
@@ -107,12 +107,12 @@ not-started : (x : Refusal) (r : Registers) → Refused x ≡ At r → ⊥
 not-started x r h = let z : _≡_ {A = ℕ} 0 1 = cc in omega arith
 
 module _ (ticket image : List ℕ) (d : Data) (m : List ℕ) where
-  abbrev Home : Begun → Type 0
-  Home b = (r : Registers) → b .answer ≡ At r → Certain ticket image r (b .memory)
+  abbrev Home : AfterStart → Type 0
+  Home b = (r : Registers) → b .answer ≡ At r → StartCertified ticket image r (b .memory)
 
   -- by what is admitted
   home-by : (bytes : AllBytes ticket) → length m ≡ 65536 → (a : Admission) → Homeward ticket image bytes a
-      → Home (begunBy a d image m)
+      → Home (startRoutineBy a d image m)
   home-by bytes size (Admission.Refused x) H r s = absurd (not-started x r s)
   home-by bytes size (Admission.Granted h c k) H r s =
       let S = H d m size in
@@ -121,11 +121,11 @@ module _ (ticket image : List ℕ) (d : Data) (m : List ℕ) where
 
   -- by whether the memory has 65,536 bytes
   home-sized : (bytes : AllBytes ticket) (b : Bool) → eqb (length m) 65536 ≡ b
-      → Home (cond b (begunBy (admittedOf ticket image) d image m) (begun (Refused (refusal 21 0)) m))
+      → Home (cond b (startRoutineBy (admittedOf ticket image) d image m) (afterStart (Refused (refusal 21 0)) m))
   home-sized bytes true e r s =
       home-by bytes (eqb-true _ _ e) (admittedOf ticket image) (homeward ticket image bytes) r s
   home-sized bytes false e r s = absurd (not-started (refusal 21 0) r s)
 
 pub started-comes-home : (ticket image : List ℕ) → AllBytes ticket → (d : Data) (m : List ℕ) → StartedComesHome ticket image d m
-unfolding begunOf
+unfolding startRoutineOf
 started-comes-home ticket image bytes d m = home-sized ticket image d m bytes (eqb (length m) 65536) refl

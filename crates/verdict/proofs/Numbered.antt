@@ -25,7 +25,7 @@ use Rattle.ticket.specs.Read.{refusal, admittedAs, decodedAs, turnOf, endOf, Re
 use Rattle.answers.specs.declared.Verdict.{Verdict}
 use Rattle.answers.specs.declared.Verdict.the-variants.{Accept, Refuse}
 use Rattle.rules.specs.Marks.{claimAt}
-use Rattle.rules.specs.Checks.{Check, firstOf, checksAt, checksOfMarks, wholeChecks, checksOf, acceptOf, judgedOf, verdictBy, verdictOf}
+use Rattle.rules.specs.Checks.{Check, firstFailing, checksAt, checksOfMarks, wholeChecks, checksOf, acceptOf, verdictOn, verdictBy, verdictOf}
 use Rattle.verdict.specs.Promise.{RefusalsNumbered}
 
 abbrev InTable : ℕ → Type 0
@@ -43,9 +43,9 @@ either : (b : Bool) (v : Verdict) (n place : ℕ) → OneToTwenty v → InTable 
 either true v n place rest this = rest
 either false v n place rest this = this
 
-first-numbered : (cs : List Check) (v : Verdict) → AllInTable cs → OneToTwenty v → OneToTwenty (firstOf cs v)
+first-numbered : (cs : List Check) (v : Verdict) → AllInTable cs → OneToTwenty v → OneToTwenty (firstFailing cs v)
 first-numbered [] v these rest = rest
-first-numbered (c ∷ cs) v these rest = either (c .passes) (firstOf cs v) (c .number) (c .place) (first-numbered cs v (these .1) rest) (these .0)
+first-numbered (c ∷ cs) v these rest = either (c .passes) (firstFailing cs v) (c .number) (c .place) (first-numbered cs v (these .1) rest) (these .0)
 
 accept-numbered : (entry : ℕ) (k : Option Claim) → OneToTwenty (acceptOf entry k)
 accept-numbered entry none = search arith
@@ -57,9 +57,9 @@ module _ (f : Fields) (image : List ℕ) where
   checks-numbered [] = search arith
   checks-numbered (m ∷ ms) = search (arith, checks-numbered ms)
 
-  judged-numbered : OneToTwenty (judgedOf f image)
-  unfolding judgedOf
-  judged-numbered =
+  verdict-on-numbered : OneToTwenty (verdictOn f image)
+  unfolding verdictOn
+  verdict-on-numbered =
       let entry = f .header .entry in
       let claim = claimAt (f .marks) entry in
       first-numbered (checksOf f image) (acceptOf entry claim) (search (arith, checks-numbered (f .marks))) (accept-numbered entry claim)
@@ -73,7 +73,7 @@ unfolding causeOf
 cause-most p c = search most
 
 end-numbered : (image : List ℕ) (p : Prefix) (ms : List Mark) (s : List ℕ) → OneToTwenty (verdictBy (endOf p ms s) image)
-end-numbered image p ms [] = judged-numbered _ image
+end-numbered image p ms [] = verdict-on-numbered _ image
 end-numbered image p ms (b ∷ s) = search arith
 
 -- `left`: whatever is left to do gives such a verdict

@@ -12,7 +12,7 @@ use Rattle.ticket.specs.Read.{readOf}
 use Rattle.ticket.specs.Rules.{Readable, ReadByTheRules}
 use Rattle.ticket.proofs.Listed.{fields-ticket}
 use Rattle.ticket.proofs.WrittenRead.{few}
-use Rattle.rules.specs.Checks.{judgedOf}
+use Rattle.rules.specs.Checks.{verdictOn}
 use Rattle.verdict.specs.declared.Admission.the-variants as Admission
 use Rattle.verdict.specs.Admission.{admittedIf, admittedOf}
 
@@ -38,7 +38,7 @@ module _ (ticket : List ℕ) (r : Reading) (e : r ≡ readingOf (readOf ticket))
     same-fields = ap fieldsOf (fields .2) ∙ fields-ticket (fields .0) (few ticket (fields .0) (fields .1))
 
     pub admitted-read : (image : List ℕ)
-        → let f = fieldsOf (r .ticket) in admittedOf ticket image ≡ admittedIf (judgedOf f image) (f .header)
+        → let f = fieldsOf (r .ticket) in admittedOf ticket image ≡ admittedIf (verdictOn f image) (f .header)
     unfolding admittedOf
     admitted-read image = rw (same-fields, fields .1)
 

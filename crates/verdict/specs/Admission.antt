@@ -8,7 +8,7 @@ use Rattle.ticket.specs.Fields.{Outcome, read, refused}
 use Rattle.ticket.specs.Read.{readOf}
 use Rattle.answers.specs.declared.Verdict.{Verdict}
 use Rattle.answers.specs.declared.Verdict.the-variants.{Accept, Refuse}
-use Rattle.rules.specs.Checks.{judgedOf}
+use Rattle.rules.specs.Checks.{verdictOn}
 use Rattle.verdict.specs.declared.Admission.{Admission}
 use Rattle.verdict.specs.declared.Admission.the-variants.{Granted, Refused}
 
@@ -19,7 +19,7 @@ admittedIf (Refuse r) h = Refused r
 
 abbrev pub admittedBy : Outcome → List ℕ → Admission
 admittedBy (refused r) image = Refused r
-admittedBy (read f) image = admittedIf (judgedOf f image) (f .header)
+admittedBy (read f) image = admittedIf (verdictOn f image) (f .header)
 
 unfoldable pub admittedOf : List ℕ → List ℕ → Admission
 admittedOf ticket image = admittedBy (readOf ticket) image

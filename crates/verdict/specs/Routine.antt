@@ -22,24 +22,24 @@ use Rattle.verdict.specs.declared.Started.{Started}
 use Rattle.verdict.specs.declared.Started.the-variants.{At, Refused}
 
 -- the answer and the memory afterwards
-pub record Begun : Type 0 where
+pub record AfterStart : Type 0 where
   pub answer : Started
   pub memory : List ℕ
 
-abbrev pub begun : Started → List ℕ → Begun
-begun a m = record { answer = a; memory = m }
+abbrev pub afterStart : Started → List ℕ → AfterStart
+afterStart a m = record { answer = a; memory = m }
 
-abbrev pub begunBy : Admission → Data → List ℕ → List ℕ → Begun
-begunBy (Admission.Refused r) d image m = begun (Refused r) m
-begunBy (Admission.Granted h cost stack) d image m = begun (startedOf h d image m) (loadedOf h image m)
+abbrev pub startRoutineBy : Admission → Data → List ℕ → List ℕ → AfterStart
+startRoutineBy (Admission.Refused r) d image m = afterStart (Refused r) m
+startRoutineBy (Admission.Granted h cost stack) d image m = afterStart (startedOf h d image m) (loadedOf h image m)
 
 -- 21 is checked first; then what the verdict refuses is refused, and alters nothing
-unfoldable pub begunOf : List ℕ → List ℕ → Data → List ℕ → Begun
-begunOf ticket image d m =
-    cond (eqb (length m) 65536) (begunBy (admittedOf ticket image) d image m) (begun (Refused (refusal 21 0)) m)
+unfoldable pub startRoutineOf : List ℕ → List ℕ → Data → List ℕ → AfterStart
+startRoutineOf ticket image d m =
+    cond (eqb (length m) 65536) (startRoutineBy (admittedOf ticket image) d image m) (afterStart (Refused (refusal 21 0)) m)
 
 -- from the registers and the memory that are answered, the routine comes home
-pub record Certain (ticket image : List ℕ) (r : Registers) (m : List ℕ) : Type 0 where
+pub record StartCertified (ticket image : List ℕ) (r : Registers) (m : List ℕ) : Type 0 where
   pub entry : ℕ
   pub cost : Cycles
   pub stack : StackBytes
@@ -48,14 +48,14 @@ pub record Certain (ticket image : List ℕ) (r : Registers) (m : List ℕ) : Ty
 
 abbrev pub StartedComesHome : List ℕ → List ℕ → Data → List ℕ → Type 0
 StartedComesHome ticket image d m =
-    (r : Registers) → begunOf ticket image d m .answer ≡ At r → Certain ticket image r (begunOf ticket image d m .memory)
+    (r : Registers) → startRoutineOf ticket image d m .answer ≡ At r → StartCertified ticket image r (startRoutineOf ticket image d m .memory)
 
 -- a start by the header h succeeds and comes home, within these figures
 abbrev pub StartComesHome : List ℕ → List ℕ → Header → Cycles → StackBytes → Data → List ℕ → Type 0
 StartComesHome ticket image h cost stack d m =
     (r : Registers)
     × (startedOf h d image m ≡ At r)
-    × (C : Certain ticket image r (loadedOf h image m))
+    × (C : StartCertified ticket image r (loadedOf h image m))
     × (C .cost ≡ cost)
     × (C .stack ≡ stack)
 

@@ -5,14 +5,14 @@ ghost use Rattle.rules.specs.Checks.{verdictOf};
 ghost use Rattle.verdict.specs.Promise.{Promised};
 ghost use Rattle.verdict.specs.Start.{startedOf, loadedOf, StartsAsClaimed};
 ghost use Rattle.verdict.specs.Admission.{admittedOf};
-ghost use Rattle.verdict.specs.Routine.{begun, begunOf, StartedComesHome, AdmittedComesHome};
+ghost use Rattle.verdict.specs.Routine.{afterStart, startRoutineOf, StartedComesHome, AdmittedComesHome};
 use crate::load::fill;
 use crate::load::last_of;
 use crate::load::put_home;
 use answers::Refusal;
 use answers::Verdict;
 use answers::refuse;
-use checks::judge::judge;
+use checks::verdict::verdict_on;
 use commands::prefix::Header;
 use registers::Cycles;
 use registers::Data;
@@ -42,7 +42,7 @@ pub fn admit(ticket: &[u8], image: &[u8]) -> Admission
         Answer::Read => {
             let t = reading.ticket;
             let h = t.header;
-            match judge(t, image) {
+            match verdict_on(t, image) {
                 Verdict::Refuse(x) => Admission::Refused(x),
                 Verdict::Accept(_, cost, stack) => Admission::Granted(h, cost, stack),
             }
@@ -89,7 +89,7 @@ pub fn start(h: Header, image: &[u8], d: Data, memory: &mut [u8]) -> Started
 
 // Judges a routine and, where it is accepted, starts it: what is started comes home. Else the number and place of the verdict's refusal.
 pub fn start_routine(ticket: &[u8], image: &[u8], d: Data, memory: &mut [u8]) -> Started
-    ensures { λ r. ⌜ (begun r (now (memory .exit)) ≡ begunOf (now (ticket .entry)) (now (image .entry)) d (now (memory .entry))) × StartedComesHome (now (ticket .entry)) (now (image .entry)) d (now (memory .entry)) ⌝ }
+    ensures { λ r. ⌜ (afterStart r (now (memory .exit)) ≡ startRoutineOf (now (ticket .entry)) (now (image .entry)) d (now (memory .entry))) × StartedComesHome (now (ticket .entry)) (now (image .entry)) d (now (memory .entry)) ⌝ }
 {
     if memory.len() != 65536 {
         return Started::Refused(refuse(21, 0));

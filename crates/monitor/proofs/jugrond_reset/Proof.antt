@@ -2,7 +2,7 @@
 -- Assumes nothing.
 use borrow.Author.Needs.{needs}
 use borrow.Author.Tests.{eq-eqb, ne-eqb}
-use Rattle.monitor.specs.Calls.{resetBytesOf}
+use Rattle.monitor.specs.StepperCalls.{resetBytesOf}
 use Rattle.monitor.proofs.jugrond_reset.Statement.{statement}
 use Rattle.monitor.proofs.jugrond_reset.Tie as tie
 

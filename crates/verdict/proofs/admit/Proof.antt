@@ -16,8 +16,8 @@ home : (c : tie.After-read)
     → let s = c .before .before .before .args in AdmittedComesHome (s .ticket .now) (s .image .now)
 home c = admitted-comes-home _ _ (all-bytes _ (λ i. c .before .before .shared-slice-known .given i .fits))
 
-judge-requires : tie.Need-judge-requires
-judge-requires c κs =
+verdict-on-requires : tie.Need-verdict-on-requires
+verdict-on-requires c κs =
     let r = c .before .before .before .before .read in
     readable _ _ (r .ensures .0) (c .before .before .enum-told .given .1) (r .ensures .1)
 
@@ -27,15 +27,15 @@ returns c =
     (sym (admitted-refused _ _ (r .read .ensures .0) _ _ (c .before .answer .given .1)), home r)
 
 -- where the checks have answered
-judged : (c : tie.After-judge)
+judged : (c : tie.After-verdict-on)
     → let r = c .before .before .before .before .before in
     let s = r .before .before .before .args in
-    admittedIf (c .judge .result) (r .read .result .ticket .header) ≡ admittedOf (s .ticket .now) (s .image .now)
+    admittedIf (c .verdict-on .result) (r .read .result .ticket .header) ≡ admittedOf (s .ticket .now) (s .image .now)
 unfolding fieldsOf
 judged c =
     let t = c .before .before .before in
     let r = t .before .before in
-    rw (c .judge .ensures, admitted-read _ _ (r .read .ensures .0) (t .enum-told .given .1) _)
+    rw (c .verdict-on .ensures, admitted-read _ _ (r .read .ensures .0) (t .enum-told .given .1) _)
 
 returns-2 : tie.Need-returns-2
 returns-2 c =
@@ -54,7 +54,7 @@ admit-spec =
     (search needs)
     (search needs)
     (search needs)
-    judge-requires
+    verdict-on-requires
     (search needs)
     (search needs)
     returns

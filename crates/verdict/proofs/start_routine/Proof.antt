@@ -4,7 +4,7 @@ use borrow.Author.Needs.{needs}
 use borrow.Author.Tests.{eq-eqb, ne-eqb}
 use mathlib.Core.Path.{_≡_}
 use Rattle.commands.proofs.Digits.{all-bytes}
-use Rattle.verdict.specs.Routine.{begunBy, begunOf, StartedComesHome}
+use Rattle.verdict.specs.Routine.{startRoutineBy, startRoutineOf, StartedComesHome}
 use Rattle.verdict.proofs.Home.{started-comes-home}
 use Rattle.verdict.proofs.start_routine.Statement.{statement}
 use Rattle.verdict.proofs.start_routine.Tie as tie
@@ -15,15 +15,15 @@ home : (c : tie.After-slice-known)
 home c = started-comes-home _ _ (all-bytes _ (λ i. c .before .before .shared-slice-known .given i .fits)) _ _
 
 returns : tie.Need-returns
-unfolding begunOf
+unfolding startRoutineOf
 returns c = (simp (ne-eqb _ _ (c .before .if1 .taken), c .refuse .ensures), home (c .before .before))
 
 -- where the routine is judged
 judged : (c : tie.After-admit)
     → let s = c .before .before .before .before .before .args in
-    begunBy (c .admit .result) (s .d) (s .image .now) (s .memory .now)
-    ≡ begunOf (s .ticket .now) (s .image .now) (s .d) (s .memory .now)
-unfolding begunOf
+    startRoutineBy (c .admit .result) (s .d) (s .image .now) (s .memory .now)
+    ≡ startRoutineOf (s .ticket .now) (s .image .now) (s .d) (s .memory .now)
+unfolding startRoutineOf
 judged c = rw (eq-eqb _ _ (c .before .if1 .left), c .admit .ensures .0)
 
 returns-2 : tie.Need-returns-2

@@ -10,4 +10,4 @@ whole-spec =
     (tie.spec
     (search needs) (search needs) (search needs) (search needs) (search needs)
     (λ c. simp (c .before .before .enum-told .given .1, c .refuse .ensures))
-    (λ c. simp (c .before .before .a .given .1, c .entered .ensures)))
+    (λ c. simp (c .before .before .a .given .1, c .at-entry .ensures)))

@@ -31,11 +31,11 @@ returns c =
     let l = c .before .before .loop in
     (sym (look-over _ _ _ (c .if1 .taken)) ∙ l .inv .4 ∙ rw (c .before .before .before .begin .ensures), l .inv .3)
 
-slice-aggregate-turn : tie.Need-slice-aggregate-turn Inv-loop μ-loop
-slice-aggregate-turn c = search needs
+slice-aggregate-look-step : tie.Need-slice-aggregate-look-step Inv-loop μ-loop
+slice-aggregate-look-step c = search needs
 
-turn-requires : tie.Need-turn-requires Inv-loop μ-loop
-turn-requires c κs = search needs
+look-step-requires : tie.Need-look-step-requires Inv-loop μ-loop
+look-step-requires c κs = search needs
 
 add-i : tie.Need-add-i Inv-loop μ-loop
 add-i c = omega arith
@@ -45,7 +45,7 @@ loop-less c = omega arith
 
 loop-again : tie.Need-loop-again Inv-loop μ-loop
 loop-again c =
-    let t = c .before .turn in
+    let t = c .before .look-step in
     let a = c .before .before .before .before .before in
     let n = a .before .before .args .budget - (a .loop .i + 1) in
     let one : a .before .before .args .budget - a .loop .i ≡ suc n = omega arith in (
@@ -71,8 +71,8 @@ look-ahead-spec =
     begin-requires
     loop-holds
     returns
-    slice-aggregate-turn
-    turn-requires
+    slice-aggregate-look-step
+    look-step-requires
     add-i
     loop-less
     loop-again

@@ -4,7 +4,7 @@ use borrow.Author.Needs.{needs}
 use borrow.Author.Tests.{eq-eqb, ne-eqb}
 use Prim.Native.Nat.{ℕ}
 use mathlib.Core.Path.{_≡_}
-use Rattle.monitor.specs.Routine.{ofAdmission, certifyBytesOf}
+use Rattle.monitor.specs.RoutineCalls.{ofAdmission, certifyBytesOf}
 use Rattle.monitor.proofs.slot.certify_into.Statement.{statement}
 use Rattle.monitor.proofs.slot.certify_into.Tie as tie
 

@@ -8,17 +8,17 @@ use lib.ListN.{length}
 use Rattle.registers.specs.declared.Cycles.{Cycles}
 use Rattle.registers.specs.declared.StackBytes.{StackBytes}
 use Rattle.commands.specs.declared.prefix.Header.{Header}
-use Rattle.monitor.specs.Bytes.{withWord}
 use Rattle.monitor.proofs.Elements.{all-elements}
-use Rattle.monitor.specs.Slot.{slotOf, withLong, withWindow}
+use Rattle.monitor.specs.Slot.{slotOf}
 use Rattle.monitor.proofs.slot.put_slot.Statement.{statement}
 use Rattle.monitor.proofs.slot.put_slot.Tie as tie
+use Rattle.monitor.specs.inner.Put.{putLong, putWindow, putWord}
 
 stored : (bs : List ℕ) → length bs ≡ 24 → (h : Header) (cost : Cycles) (stack : StackBytes)
-    → withWord
-    (withLong
-    (withLong
-    (withWord (withWindow (withWindow (withWindow bs 0 (h .code)) 4 (h .«data»)) 8 (h .stack)) 12 (h .entry))
+    → putWord
+    (putLong
+    (putLong
+    (putWord (putWindow (putWindow (putWindow bs 0 (h .code)) 4 (h .«data»)) 8 (h .stack)) 12 (h .entry))
     14
     (h .limit .0))
     18

@@ -3,7 +3,7 @@
 use borrow.Author.Needs.{needs}
 use borrow.Author.Tests.{eq-eqb, ne-eqb}
 use mathlib.Core.Path.{_∙_}
-use Rattle.monitor.specs.Routine.{startSlotOf}
+use Rattle.monitor.specs.RoutineCalls.{startSlotOf}
 use Rattle.monitor.proofs.slot.start_from.Statement.{statement}
 use Rattle.monitor.proofs.slot.start_from.Tie as tie
 

@@ -1,0 +1,5 @@
+pub mod Find
+pub mod Said
+pub mod AtMark
+pub mod MarkCause
+pub mod Whole

@@ -1,0 +1,85 @@
+-- Two different answers of the verdict leave something different in C, since no refusal is numbered 0: from what a call
+-- leaves the answer is found again.
+-- Assumes nothing.
+use Prim.Native.Nat.{ℕ}
+use mathlib.Core.Path.{_≡_, refl, sym, ap, _∙_}
+use mathlib.Core.Bool.{cond}
+use mathlib.Core.List.{List}
+use borrow.Author.Tests.{ne-eqb}
+use lib.Dec.{eqb}
+use Rattle.registers.specs.declared.Registers.{Registers}
+use Rattle.answers.specs.declared.Refusal.{Refusal}
+use Rattle.answers.specs.declared.Verdict.{Verdict}
+use Rattle.answers.specs.declared.Verdict.the-variants.{Accept, Refuse}
+use Rattle.verdict.specs.declared.Admission.{Admission}
+use Rattle.verdict.specs.declared.Admission.the-variants as Admission
+use Rattle.verdict.specs.declared.Started.{Started}
+use Rattle.verdict.specs.declared.Started.the-variants.{At, Refused}
+use Rattle.monitor.specs.RegisterBytes.{unpacked}
+use Rattle.monitor.proofs.RegisterRoundTrip.{unpacked-packed}
+use Rattle.monitor.specs.Slot.{headerIn, costIn, stackIn}
+use Rattle.monitor.specs.RoutineCalls.{VerdictCall, ofVerdict, StartCall, ofStarted, CertifyCall, ofAdmission}
+use Rattle.monitor.proofs.SlotRoundTrip.{header-in-slot, cost-in-slot, stack-in-slot}
+
+-- as every refusal of the verdict and of a start is
+abbrev pub Numbered : Refusal → Type 0
+Numbered r = r .number ≡ 0 → ⊥
+
+abbrev pub NumberedVerdict : Verdict → Type 0
+NumberedVerdict (Accept e c s) = Unit
+NumberedVerdict (Refuse r) = Numbered r
+
+abbrev pub NumberedStart : Started → Type 0
+NumberedStart (At q) = Unit
+NumberedStart (Refused r) = Numbered r
+
+abbrev pub NumberedAdmission : Admission → Type 0
+NumberedAdmission (Admission.Granted h c s) = Unit
+NumberedAdmission (Admission.Refused r) = Numbered r
+
+abbrev refusalFrom : (number place : ℕ) → Refusal
+refusalFrom n p = record { number = n; place = p }
+
+abbrev verdictFrom : VerdictCall → Verdict
+verdictFrom j =
+    cond
+    (eqb (j .outcome) 0)
+    (Accept (j .entry) (record { 0 = j .cost }) (record { 0 = j .stack }))
+    (Refuse (refusalFrom (j .outcome) (j .place)))
+
+abbrev startFrom : StartCall → Started
+startFrom b = cond (eqb (b .outcome) 0) (At (unpacked (b .registers))) (Refused (refusalFrom (b .outcome) (b .place)))
+
+abbrev admissionFrom : CertifyCall → Admission
+admissionFrom f =
+    cond
+    (eqb (f .outcome) 0)
+    (Admission.Granted (headerIn (f .slot)) (costIn (f .slot)) (stackIn (f .slot)))
+    (Admission.Refused (refusalFrom (f .outcome) (f .place)))
+
+module _ (e c s p : ℕ) where
+  verdict-back : (v : Verdict) → NumberedVerdict v → verdictFrom (ofVerdict v e c s p) ≡ v
+  verdict-back (Accept entry cost stack) n = refl
+  verdict-back (Refuse r) n = rw (ne-eqb _ _ n)
+
+  pub verdicts-apart : (v w : Verdict) → NumberedVerdict v → NumberedVerdict w
+      → ofVerdict v e c s p ≡ ofVerdict w e c s p → v ≡ w
+  verdicts-apart v w n o h = sym (verdict-back v n) ∙ ap verdictFrom h ∙ verdict-back w o
+
+module _ (p : ℕ) (rs m : List ℕ) where
+  start-back : (a : Started) → NumberedStart a → startFrom (ofStarted a p rs m) ≡ a
+  start-back (At q) n = ap (λ (r : Registers). At r) (unpacked-packed q)
+  start-back (Refused r) n = rw (ne-eqb _ _ n)
+
+  pub starts-apart : (a b : Started) → NumberedStart a → NumberedStart b
+      → ofStarted a p rs m ≡ ofStarted b p rs m → a ≡ b
+  starts-apart a b n o h = sym (start-back a n) ∙ ap startFrom h ∙ start-back b o
+
+module _ (p : ℕ) (slot : List ℕ) where
+  admission-back : (a : Admission) → NumberedAdmission a → admissionFrom (ofAdmission a p slot) ≡ a
+  admission-back (Admission.Granted h c s) n = rw (header-in-slot h c s, cost-in-slot h c s, stack-in-slot h c s)
+  admission-back (Admission.Refused r) n = rw (ne-eqb _ _ n)
+
+  pub admissions-apart : (a b : Admission) → NumberedAdmission a → NumberedAdmission b
+      → ofAdmission a p slot ≡ ofAdmission b p slot → a ≡ b
+  admissions-apart a b n o h = sym (admission-back a n) ∙ ap admissionFrom h ∙ admission-back b o

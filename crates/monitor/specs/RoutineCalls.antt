@@ -1,0 +1,86 @@
+-- What the C calls of the verdict and of the start come to, by the verdict's own definitions (document 01, "The
+-- machine": the press monitor is written in C). What a call does not answer stays as it was lent (demand 1: a refusal
+-- alters no lent byte).
+-- Assumes nothing.
+use Prim.Native.Nat.{ℕ}
+use mathlib.Core.Bool.{cond, _&&_}
+use mathlib.Core.List.{List}
+use lib.Dec.{eqb}
+use lib.ListN.{length}
+use Rattle.registers.specs.Registers.{dataOf}
+use Rattle.answers.specs.declared.Verdict.{Verdict}
+use Rattle.answers.specs.declared.Verdict.the-variants.{Accept, Refuse}
+use Rattle.verdict.specs.declared.Admission.{Admission}
+use Rattle.verdict.specs.declared.Admission.the-variants as Admission
+use Rattle.verdict.specs.declared.Started.{Started}
+use Rattle.verdict.specs.declared.Started.the-variants.{At, Refused}
+use Rattle.verdict.specs.Admission.{admittedOf}
+use Rattle.verdict.specs.Start.{startedOf, loadedOf}
+use Rattle.verdict.specs.Routine.{startRoutineOf}
+use Rattle.monitor.specs.RegisterBytes.{packed, unpacked}
+use Rattle.monitor.specs.Slot.{slotOf, headerIn}
+
+-- the verdict's call: its outcome, and the numbers that it was lent, afterwards
+pub record VerdictCall : Type 0 where
+  pub outcome : ℕ
+  pub entry : ℕ
+  pub cost : ℕ
+  pub stack : ℕ
+  pub place : ℕ
+
+abbrev pub verdictCall : (outcome entry cost stack place : ℕ) → VerdictCall
+verdictCall n e c s p = record { outcome = n; entry = e; cost = c; stack = s; place = p }
+
+-- 0 for acceptance, or the refusal's number, which is never 0; e, c, s and p are the numbers as they were lent
+abbrev pub ofVerdict : Verdict → (e c s p : ℕ) → VerdictCall
+ofVerdict (Accept entry cost stack) e c s p = verdictCall 0 entry (cost .0) (stack .0) p
+ofVerdict (Refuse r) e c s p = verdictCall (r .number) e c s (r .place)
+
+-- a start's call: its outcome, and the number and the bytes that it was lent, afterwards
+pub record StartCall : Type 0 where
+  pub outcome : ℕ
+  pub place : ℕ
+  pub registers : List ℕ
+  pub memory : List ℕ
+
+abbrev pub startCall : (outcome place : ℕ) (registers memory : List ℕ) → StartCall
+startCall n p rs m = record { outcome = n; place = p; registers = rs; memory = m }
+
+-- p and rs are the place and the register bytes before it, m the memory after it
+abbrev pub ofStarted : Started → (p : ℕ) (rs m : List ℕ) → StartCall
+ofStarted (At q) p rs m = startCall 0 p (packed q) m
+ofStarted (Refused r) p rs m = startCall (r .number) (r .place) rs m
+
+-- 21 at 0 is checked first, of the registers and of the memory; then what the verdict refuses is refused
+unfoldable pub startBytesOf : (place : ℕ) (ticket image registers memory : List ℕ) → StartCall
+startBytesOf p ticket image rs m =
+    let b = startRoutineOf ticket image (dataOf (unpacked rs)) m in
+    cond (eqb (length rs) 11) (ofStarted (b .answer) p rs (b .memory)) (startCall 21 0 rs m)
+
+-- the call that fills a slot: its outcome, and the number and the bytes that it was lent, afterwards
+pub record CertifyCall : Type 0 where
+  pub outcome : ℕ
+  pub place : ℕ
+  pub slot : List ℕ
+
+abbrev pub certifyCall : (outcome place : ℕ) (slot : List ℕ) → CertifyCall
+certifyCall n p bs = record { outcome = n; place = p; slot = bs }
+
+abbrev pub ofAdmission : Admission → (p : ℕ) (slot : List ℕ) → CertifyCall
+ofAdmission (Admission.Granted h cost stack) p bs = certifyCall 0 p (slotOf h cost stack)
+ofAdmission (Admission.Refused r) p bs = certifyCall (r .number) (r .place) bs
+
+-- 21 at 0 is checked first, of the slot; then what the verdict refuses is refused
+unfoldable pub certifyBytesOf : (place : ℕ) (ticket image slot : List ℕ) → CertifyCall
+certifyBytesOf p ticket image bs =
+    cond (eqb (length bs) 24) (ofAdmission (admittedOf ticket image) p bs) (certifyCall 21 0 bs)
+
+-- the start from a slot of any bytes. 21 at 0 is checked first, of the slot, the registers and the memory; then 9, of
+-- the image
+unfoldable pub startSlotOf : (place : ℕ) (slot image registers memory : List ℕ) → StartCall
+startSlotOf p bs image rs m =
+    let h = headerIn bs in
+    cond
+    (eqb (length bs) 24 && eqb (length rs) 11)
+    (ofStarted (startedOf h (dataOf (unpacked rs)) image m) p rs (loadedOf h image m))
+    (startCall 21 0 rs m)

@@ -1,0 +1,25 @@
+-- What the code's replies come to: the outcome's number, the numbers answered beside it, the place of a refusal. An inner
+-- matter of the code.
+-- Assumes nothing.
+use Prim.Native.Nat.{ℕ}
+use mathlib.Core.List.{List}
+use Rattle.monitor.specs.declared.stepper_calls.StepperReply.{StepperReply}
+use Rattle.monitor.specs.declared.stepper_calls.StepperReply.the-variants as Stepper
+use Rattle.monitor.specs.declared.routine_calls.RoutineReply.{RoutineReply}
+use Rattle.monitor.specs.declared.routine_calls.RoutineReply.the-variants.{Done, Refused}
+use Rattle.monitor.specs.StepperCalls.{StepperCall, stepperCall}
+
+-- what a reply does not answer is as it was lent
+abbrev pub stepperReplied : StepperReply → (cycles place : ℕ) (registers memory : List ℕ) → StepperCall
+stepperReplied (Stepper.Done n k) c p rs m = stepperCall n k p rs m
+stepperReplied (Stepper.Stopped n k at) c p rs m = stepperCall n k at rs m
+stepperReplied (Stepper.Refused n at) c p rs m = stepperCall n c at rs m
+
+abbrev pub replyNumber : RoutineReply → ℕ
+replyNumber Done = 0
+replyNumber (Refused r) = r .number
+
+-- p is the place as it was lent
+abbrev pub replyPlace : RoutineReply → (p : ℕ) → ℕ
+replyPlace Done p = p
+replyPlace (Refused r) p = r .place

@@ -1,0 +1,126 @@
+// A step and a run on register bytes, and the numbers that a call answers.
+ghost use mathlib.Core.Path.{_≡_};
+ghost use mathlib.Core.List.{List};
+ghost use Prim.Native.Nat.{ℕ};
+ghost use lib.ListN.{length};
+ghost use Rattle.stepper.specs.Answer.{numberOf, placeOf};
+ghost use Rattle.monitor.specs.RegisterBytes.{packed};
+ghost use Rattle.monitor.specs.StepperCalls.{stepperCall, stepBytesOf, runBytesOf};
+ghost use Rattle.monitor.specs.inner.Replies.{stepperReplied};
+use crate::register_bytes::pack;
+use crate::register_bytes::unpack;
+use registers::Registers;
+use stepper::answer::Ran;
+use stepper::answer::Refusal;
+use stepper::answer::Stepped;
+
+// A reset or a step is done, or a run is home.
+pub const DONE: u32 = 0;
+
+pub const BAD_LENGTH: u32 = 21;
+
+const NO_INSTRUCTION: u32 = 22;
+
+const WAITS: u32 = 23;
+
+// Past the numbers of document 01's refusals, which go to 24.
+const SPENT: u32 = 100;
+
+// What a call answers beside the lent bytes; what it does not answer is left as it was lent.
+pub enum StepperReply {
+    Done(u32, u32), // an outcome that is no refusal, and the cycles
+    Stopped(u32, u32, u16), // a run refused on its way: number, the cycles before it, place
+    Refused(u32, u16), // nothing was done: number and place
+}
+
+fn number_of(x: Refusal) -> u32
+    ensures { λ n. ⌜ n ≡ numberOf x ⌝ }
+{
+    match x {
+        Refusal::BadMemory => BAD_LENGTH,
+        Refusal::NoInstruction(_) => NO_INSTRUCTION,
+        Refusal::Waits(_) => WAITS,
+    }
+}
+
+fn place_of(x: Refusal) -> u16
+    ensures { λ p. ⌜ p ≡ placeOf x ⌝ }
+{
+    match x {
+        Refusal::BadMemory => 0,
+        Refusal::NoInstruction(pc) => pc,
+        Refusal::Waits(pc) => pc,
+    }
+}
+
+// The registers reached are stored.
+fn reached(q: Registers, regs: &mut [u8], a: StepperReply) -> StepperReply
+    requires { ⌜ length (now regs) ≡ 11 ⌝ }
+    ensures { λ b. ⌜ (now (regs .exit) ≡ packed q) × (b ≡ a) ⌝ }
+{
+    pack(q, regs);
+    a
+}
+
+// A refused step stores nothing.
+pub fn step_on(regs: &mut [u8], mem: &mut [u8]) -> StepperReply
+    ensures { λ a. ⌜ ((c p : ℕ) → stepperReplied a c p (now (regs .exit)) (now (mem .exit))
+        ≡ stepBytesOf c p (now (regs .entry)) (now (mem .entry))) ⌝ }
+{
+    if regs.len() != 11 {
+        return StepperReply::Refused(BAD_LENGTH, 0);
+    }
+    if mem.len() != 65536 {
+        return StepperReply::Refused(BAD_LENGTH, 0);
+    }
+    let r = unpack(regs);
+    match stepper::step(r, mem) {
+        Stepped::Done(q, k) => reached(q, regs, StepperReply::Done(DONE, k.0)),
+        Stepped::Refused(x) => StepperReply::Refused(number_of(x), place_of(x)),
+    }
+}
+
+// Every answer of a run holds the registers reached, a refusal on the way too.
+pub fn run_on(regs: &mut [u8], mem: &mut [u8], budget: u32) -> StepperReply
+    ensures { λ a. ⌜ ((c p : ℕ) → stepperReplied a c p (now (regs .exit)) (now (mem .exit))
+        ≡ runBytesOf c p (now (regs .entry)) (now (mem .entry)) budget) ⌝ }
+{
+    if regs.len() != 11 {
+        return StepperReply::Refused(BAD_LENGTH, 0);
+    }
+    if mem.len() != 65536 {
+        return StepperReply::Refused(BAD_LENGTH, 0); // before home is looked at
+    }
+    let r = unpack(regs);
+    match stepper::run(r, mem, budget) {
+        Ran::Home(q, k) => reached(q, regs, StepperReply::Done(DONE, k.0)),
+        Ran::Spent(q, k) => reached(q, regs, StepperReply::Done(SPENT, k.0)),
+        Ran::Refused(q, k, x) => reached(
+            q,
+            regs,
+            StepperReply::Stopped(number_of(x), k.0, place_of(x)),
+        ),
+    }
+}
+
+// Only the numbers that are answered are written.
+pub fn answer(a: StepperReply, cycles: &mut u32, place: &mut u16) -> u32
+    ensures { λ n. ⌜ ((rs m : List ℕ) → stepperCall n (now (cycles .exit)) (now (place .exit)) rs m
+        ≡ stepperReplied a (now (cycles .entry)) (now (place .entry)) rs m) ⌝ }
+{
+    match a {
+        StepperReply::Done(n, k) => {
+            *cycles = k;
+            n
+        }
+        StepperReply::Stopped(n, k, p) => {
+            *cycles = k;
+            *place = p;
+            n
+        }
+        StepperReply::Refused(n, p) => {
+            *place = p;
+            n
+        }
+    }
+}

@@ -1,0 +1,84 @@
+-- A routine that is not admitted, or not started, is refused with a number that is not 0.
+-- Assumes nothing.
+use Prim.Native.Nat.{ℕ, _≤_}
+use mathlib.Core.Path.{_≡_, refl}
+use mathlib.Core.Bool.{Bool, true, false, cond}
+use mathlib.Core.List.{List}
+use native.Mathlib.Omega.{arith}
+use lib.Dec.{eqb}
+use lib.ListN.{length}
+use Rattle.registers.specs.declared.Data.{Data}
+use Rattle.registers.specs.declared.Registers.{Registers}
+use Rattle.answers.specs.declared.Refusal.{Refusal}
+use Rattle.commands.specs.declared.prefix.Header.{Header}
+use Rattle.ticket.specs.Fields.{Outcome, read, refused}
+use Rattle.ticket.specs.Read.{refusal, readOf}
+use Rattle.answers.specs.declared.Verdict.{Verdict}
+use Rattle.answers.specs.declared.Verdict.the-variants.{Accept, Refuse}
+use Rattle.rules.specs.Checks.{verdictOn, verdictBy, verdictOf}
+use Rattle.verdict.specs.declared.Admission.{Admission}
+use Rattle.verdict.specs.declared.Admission.the-variants as Admission
+use Rattle.verdict.specs.declared.Started.{Started}
+use Rattle.verdict.specs.declared.Started.the-variants.{At, Refused}
+use Rattle.verdict.specs.Admission.{admittedIf, admittedBy, admittedOf}
+use Rattle.verdict.specs.Start.{startedOf}
+use Rattle.verdict.specs.Routine.{afterStart, startRoutineBy, startRoutineOf}
+use Rattle.verdict.proofs.Numbered.{numbered}
+
+abbrev RefusesNotZero : Verdict → Type 0
+RefusesNotZero v = (r : Refusal) → v ≡ Refuse r → 1 ≤ r .number
+
+abbrev AdmissionNotZero : Admission → Type 0
+AdmissionNotZero (Admission.Granted h c k) = Unit
+AdmissionNotZero (Admission.Refused r) = 1 ≤ r .number
+
+abbrev NotZero : Started → Type 0
+NotZero (At q) = Unit
+NotZero (Refused r) = 1 ≤ r .number
+
+if-not-zero : (h : Header) (v : Verdict) → RefusesNotZero v → AdmissionNotZero (admittedIf v h)
+if-not-zero h (Refuse r) p = p r refl
+if-not-zero h (Accept entry cost stack) p = tt
+
+by-not-zero : (image : List ℕ) (o : Outcome) → RefusesNotZero (verdictBy o image)
+    → AdmissionNotZero (admittedBy o image)
+by-not-zero image (refused r) p = p r refl
+by-not-zero image (read f) p = if-not-zero (f .header) (verdictOn f image) p
+
+admitted-not-zero : (ticket image : List ℕ) → AdmissionNotZero (admittedOf ticket image)
+unfolding admittedOf verdictOf
+admitted-not-zero ticket image = by-not-zero image (readOf ticket) (λ r h. numbered ticket image r h .0)
+
+pub admission-numbered : (ticket image : List ℕ) (r : Refusal) → admittedOf ticket image ≡ Admission.Refused r
+    → 1 ≤ r .number
+admission-numbered ticket image r h = rw h at (admitted-not-zero ticket image)
+
+-- by the start's two tests
+tests-not-zero : (a b : Bool) (q : Registers) → NotZero (cond a (cond b (At q) (Refused (refusal 9 0))) (Refused (refusal 21 0)))
+tests-not-zero true true q = tt
+tests-not-zero true false q = omega arith
+tests-not-zero false b q = omega arith
+
+module _ (image : List ℕ) (d : Data) (m : List ℕ) where
+  started-not-zero : (h : Header) → NotZero (startedOf h d image m)
+  unfolding startedOf
+  started-not-zero h = search tests-not-zero
+
+  start-not-zero : (a : Admission) → AdmissionNotZero a → NotZero (startRoutineBy a d image m .answer)
+  start-not-zero (Admission.Refused r) p = p
+  start-not-zero (Admission.Granted h c k) p = started-not-zero h
+
+  -- nor a start's, by any header
+  pub started-numbered : (h : Header) (r : Refusal) → startedOf h d image m ≡ Refused r → 1 ≤ r .number
+  started-numbered h r e = rw e at (started-not-zero h)
+
+  -- by whether the memory has 65,536 bytes
+  sized-not-zero : (b : Bool) (a : Admission) → AdmissionNotZero a
+      → NotZero (cond b (startRoutineBy a d image m) (afterStart (Refused (refusal 21 0)) m) .answer)
+  sized-not-zero true a p = start-not-zero a p
+  sized-not-zero false a p = omega arith
+
+pub start-numbered : (ticket image : List ℕ) (d : Data) (m : List ℕ) (r : Refusal) → startRoutineOf ticket image d m .answer ≡ Refused r → 1 ≤ r .number
+unfolding startRoutineOf
+start-numbered ticket image d m r h =
+    rw h at (sized-not-zero image d m (eqb (length m) 65536) (admittedOf ticket image) (admitted-not-zero ticket image))
