@@ -19,7 +19,7 @@ use Rattle.checks.specs.declared.shape.Successors.the-variants.{One, Two
 use Rattle.checks.specs.declared.shape.Writes.{Writes}
 use Rattle.checks.specs.declared.shape.Writes.the-variants.{Nowhere, Byte, Word}
 use Rattle.checks.specs.declared.shape.Shape.{Shape}
-use Rattle.checks.specs.declared.shape.Shape.the-variants.{Ordinary, Call, Return, Forbidden, Nothing}
+use Rattle.checks.specs.declared.shape.Shape.the-variants as Shape
 use Rattle.checks.specs.inner.Said.{successorsSaid, writesSaid, shapeSaid}
 use Rattle.checks.specs.declared.mark.Marked.{Marked}
 use Rattle.checks.specs.declared.mark.Marked.the-variants.{Unmarked, At}
@@ -61,12 +61,12 @@ pub mark-cause : (f : Fields) (m : Mark) (s : Shape) (inside : Bool) (a b : Mark
     → firstFailing (checksBy f m (shapeSaid s) inside ++ cs) v
     ≡ causeThen (markCauseOf (f .header .«data») (m .claim) s inside a b) (m .address) (firstFailing cs v)
 unfolding markCauseOf
-mark-cause f m (Ordinary next pushed pulled written cycles) inside Unmarked b p q cs v = simp (all-successors, all-writes, ← p, then-cond)
-mark-cause f m (Ordinary next pushed pulled written cycles) inside (At x) Unmarked p q cs v = simp (all-successors, all-writes, ← p, ← q, then-cond)
-mark-cause f m (Ordinary next pushed pulled written cycles) inside (At x) (At y) p q cs v = simp (all-successors, all-writes, ← p, ← q, then-cond)
-mark-cause f m (Call target after cycles) inside Unmarked b p q cs v = simp (← p, then-cond)
-mark-cause f m (Call target after cycles) inside (At x) Unmarked p q cs v = simp (← p, ← q, then-cond)
-mark-cause f m (Call target after cycles) inside (At x) (At y) p q cs v = simp (← p, ← q, then-cond)
-mark-cause f m (Return cycles) inside a b p q cs v = simp then-cond
-mark-cause f m Forbidden inside a b p q cs v = simp then-cond
-mark-cause f m Nothing inside a b p q cs v = simp cond-same
+mark-cause f m (Shape.Ordinary o) inside Unmarked b p q cs v = simp (all-successors, all-writes, ← p, then-cond)
+mark-cause f m (Shape.Ordinary o) inside (At x) Unmarked p q cs v = simp (all-successors, all-writes, ← p, ← q, then-cond)
+mark-cause f m (Shape.Ordinary o) inside (At x) (At y) p q cs v = simp (all-successors, all-writes, ← p, ← q, then-cond)
+mark-cause f m (Shape.Call c) inside Unmarked b p q cs v = simp (← p, then-cond)
+mark-cause f m (Shape.Call c) inside (At x) Unmarked p q cs v = simp (← p, ← q, then-cond)
+mark-cause f m (Shape.Call c) inside (At x) (At y) p q cs v = simp (← p, ← q, then-cond)
+mark-cause f m (Shape.Return cycles) inside a b p q cs v = simp then-cond
+mark-cause f m Shape.Forbidden inside a b p q cs v = simp then-cond
+mark-cause f m Shape.Nothing inside a b p q cs v = simp cond-same

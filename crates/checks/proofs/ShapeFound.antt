@@ -5,7 +5,8 @@ use Prim.Native.Nat.{ℕ, _+_}
 use borrow.Author.Tests.{ne-eqb}
 use Rattle.opcodes.proofs.Says.{Said, there-says, nowhere-says, none-there}
 use Rattle.opcodes.specs.Tables.{lengthAt}
-use Rattle.opcodes.specs.Decode.{Bytes, instructionOf, decodeAt, foundOf}
+use Rattle.opcodes.specs.Decode.{Bytes, instructionOf, decodeAt}
+use Rattle.opcodes.specs.inner.Lookup.{foundOf}
 use Rattle.opcodes.specs.declared.lookup.Found.the-variants as Found
 use Rattle.rules.specs.Shape.{nothing, shapeIn, shapeOf, instructionSize}
 

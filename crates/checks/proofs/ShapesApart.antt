@@ -9,7 +9,7 @@ use Rattle.checks.specs.declared.shape.Successors.the-variants.{One, Two
 use Rattle.checks.specs.declared.shape.Writes.{Writes}
 use Rattle.checks.specs.declared.shape.Writes.the-variants.{Nowhere, Byte, Word}
 use Rattle.checks.specs.declared.shape.Shape.{Shape}
-use Rattle.checks.specs.declared.shape.Shape.the-variants.{Ordinary, Call, Return, Forbidden, Nothing}
+use Rattle.checks.specs.declared.shape.Shape.the-variants as Shape
 use Rattle.checks.specs.inner.Said.{successorsSaid, writesSaid, shapeSaid}
 
 -- an empty list is no reading
@@ -33,19 +33,26 @@ writes-back (Byte a) = refl
 writes-back (Word a) = refl
 
 abbrev shapeFrom : Rules.Shape → Shape
-shapeFrom (Rules.ordinary next up down written k) =
-    Ordinary (successorsFrom next) (record { 0 = up }) (record { 0 = down }) (writesFrom written) (record { 0 = k })
-shapeFrom (Rules.call target after cycles) = Call target after (record { 0 = cycles })
-shapeFrom (Rules.return cycles) = Return (record { 0 = cycles })
-shapeFrom Rules.forbidden = Forbidden
-shapeFrom Rules.nothing = Nothing
+shapeFrom (Rules.ordinary o) =
+    Shape.Ordinary (record {
+      next = successorsFrom (o .next);
+      pushed = record { 0 = o .pushed };
+      pulled = record { 0 = o .pulled };
+      writes = writesFrom (o .written);
+      cycles = record { 0 = o .cycles };
+    })
+shapeFrom (Rules.call c) =
+    Shape.Call (record { target = c .target; after = c .after; cycles = record { 0 = c .cycles } })
+shapeFrom (Rules.return cycles) = Shape.Return (record { 0 = cycles })
+shapeFrom Rules.forbidden = Shape.Forbidden
+shapeFrom Rules.nothing = Shape.Nothing
 
 shape-back : (s : Shape) → shapeFrom (shapeSaid s) ≡ s
-shape-back (Ordinary next pushed pulled written cycles) = rw (successors-back next, writes-back written)
-shape-back (Call target after cycles) = refl
-shape-back (Return cycles) = refl
-shape-back Forbidden = refl
-shape-back Nothing = refl
+shape-back (Shape.Ordinary o) = rw (successors-back (o .next), writes-back (o .writes))
+shape-back (Shape.Call c) = refl
+shape-back (Shape.Return cycles) = refl
+shape-back Shape.Forbidden = refl
+shape-back Shape.Nothing = refl
 
 pub shapes-apart : (a b : Shape) → shapeSaid a ≡ shapeSaid b → a ≡ b
 shapes-apart a b e = sym (shape-back a) ∙ ap shapeFrom e ∙ shape-back b

@@ -50,8 +50,11 @@ fn first_next(s: Shape) -> u16
     ensures { λ r. ⌜ r ≡ firstNext s ⌝ }
 {
     match s {
-        Shape::Ordinary(n, _, _, _, _) => first_in(n),
-        Shape::Call(target, _, _) => target,
+        Shape::Ordinary(o) => {
+            let next = o.next;
+            first_in(next)
+        }
+        Shape::Call(c) => c.target,
         Shape::Return(_) => 0,
         Shape::Forbidden => 0,
         Shape::Nothing => 0,
@@ -62,8 +65,11 @@ fn second_next(s: Shape) -> u16
     ensures { λ r. ⌜ r ≡ secondNext s ⌝ }
 {
     match s {
-        Shape::Ordinary(n, _, _, _, _) => second_in(n),
-        Shape::Call(_, after, _) => after,
+        Shape::Ordinary(o) => {
+            let next = o.next;
+            second_in(next)
+        }
+        Shape::Call(c) => c.after,
         Shape::Return(_) => 0,
         Shape::Forbidden => 0,
         Shape::Nothing => 0,

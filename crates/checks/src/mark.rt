@@ -1,14 +1,15 @@
 // Document 01's causes 10 to 17 at a mark, on values: the mark's claim, the shape of its instruction and the claims at its successors.
 ghost use mathlib.Core.Path.{_≡_};
 ghost use Rattle.rules.specs.Checks.{depthAgrees, costCovers, needCovers};
+ghost use Rattle.checks.specs.inner.Said.{ordinarySaid};
 ghost use Rattle.checks.specs.inner.MarkCause.{inData, followsOf, ordinaryOf, calledOf, callOf, returnOf, markCauseOf};
+use crate::shape::Ordinary;
 use crate::shape::Shape;
 use crate::shape::Writes;
 use commands::command::Claim;
 use commands::command::Window;
 use commands::command::holds;
 use registers::Cycles;
-use registers::StackBytes;
 use registers::word::wrapping_add;
 
 // The claim at an address, or none.
@@ -29,9 +30,11 @@ fn in_data(w: Window, x: Writes) -> bool
 }
 
 // The claim at a successor of an ordinary instruction, against the mark's own.
-fn depth_agrees(k: Claim, pushed: StackBytes, pulled: StackBytes, x: Claim) -> bool
-    ensures { λ r. ⌜ r ≡ depthAgrees k (pushed .0) (pulled .0) x ⌝ }
+fn depth_agrees(k: Claim, o: Ordinary, x: Claim) -> bool
+    ensures { λ r. ⌜ r ≡ depthAgrees k (ordinarySaid o) x ⌝ }
 {
+    let pushed = o.pushed;
+    let pulled = o.pulled;
     let before = k.depth;
     let after = x.depth;
     (after.0 as u32) + (pulled.0 as u32) == (before.0 as u32) + (pushed.0 as u32)
@@ -45,51 +48,40 @@ fn cost_covers(k: Claim, cycles: Cycles, x: Claim) -> bool
     (cycles.0 as u64) + (rest.0 as u64) <= (all.0 as u64)
 }
 
-fn need_covers(k: Claim, pushed: StackBytes, pulled: StackBytes, x: Claim) -> bool
-    ensures { λ r. ⌜ r ≡ needCovers k (pushed .0) (pulled .0) x ⌝ }
+fn need_covers(k: Claim, o: Ordinary, x: Claim) -> bool
+    ensures { λ r. ⌜ r ≡ needCovers k (ordinarySaid o) x ⌝ }
 {
+    let pushed = o.pushed;
+    let pulled = o.pulled;
     let all = k.need;
     let rest = x.need;
     (pushed.0 as u32) + (rest.0 as u32) <= (all.0 as u32) + (pulled.0 as u32)
 }
 
 // The claims at both successors; where there is one, it stands twice.
-fn follows(
-    k: Claim,
-    pushed: StackBytes,
-    pulled: StackBytes,
-    cycles: Cycles,
-    x: Claim,
-    y: Claim,
-) -> u8
-    ensures { λ r. ⌜ r ≡ followsOf k (pushed .0) (pulled .0) (cycles .0) x y ⌝ }
+fn follows(k: Claim, o: Ordinary, x: Claim, y: Claim) -> u8
+    ensures { λ r. ⌜ r ≡ followsOf k o x y ⌝ }
 {
-    if !(depth_agrees(k, pushed, pulled, x) & depth_agrees(k, pushed, pulled, y)) {
+    let cycles = o.cycles;
+    if !(depth_agrees(k, o, x) & depth_agrees(k, o, y)) {
         return 15;
     }
     if !(cost_covers(k, cycles, x) & cost_covers(k, cycles, y)) {
         return 16;
     }
-    if !(need_covers(k, pushed, pulled, x) & need_covers(k, pushed, pulled, y)) {
+    if !(need_covers(k, o, x) & need_covers(k, o, y)) {
         return 17;
     }
     0
 }
 
-fn ordinary(
-    w: Window,
-    k: Claim,
-    pushed: StackBytes,
-    pulled: StackBytes,
-    written: Writes,
-    cycles: Cycles,
-    a: Marked,
-    b: Marked,
-) -> u8
-    ensures { λ r. ⌜ r ≡ ordinaryOf w k (pushed .0) (pulled .0) written (cycles .0) a b ⌝ }
+fn ordinary(w: Window, k: Claim, o: Ordinary, a: Marked, b: Marked) -> u8
+    ensures { λ r. ⌜ r ≡ ordinaryOf w k o a b ⌝ }
 {
     let depth = k.depth;
-    if !in_data(w, written) {
+    let pulled = o.pulled;
+    let writes = o.writes;
+    if !in_data(w, writes) {
         return 12;
     }
     if depth.0 < pulled.0 {
@@ -99,7 +91,7 @@ fn ordinary(
         Marked::Unmarked => 14,
         Marked::At(x) => match b {
             Marked::Unmarked => 14,
-            Marked::At(y) => follows(k, pushed, pulled, cycles, x, y),
+            Marked::At(y) => follows(k, o, x, y),
         },
     }
 }
@@ -165,10 +157,8 @@ pub fn mark_cause(w: Window, k: Claim, s: Shape, inside: bool, a: Marked, b: Mar
         return 10;
     }
     match s {
-        Shape::Ordinary(_, pushed, pulled, written, cycles) => {
-            ordinary(w, k, pushed, pulled, written, cycles, a, b)
-        }
-        Shape::Call(_, _, cycles) => call(k, cycles, a, b),
+        Shape::Ordinary(o) => ordinary(w, k, o, a, b),
+        Shape::Call(c) => call(k, c.cycles, a, b),
         Shape::Return(cycles) => return_from(k, cycles),
         Shape::Forbidden => 11,
         Shape::Nothing => 10,

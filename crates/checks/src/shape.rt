@@ -2,8 +2,8 @@
 ghost use mathlib.Core.Path.{_≡_};
 ghost use mathlib.Core.List.{[], _∷_};
 ghost use Rattle.registers.specs.Word.{wrappingAdd};
-ghost use Rattle.rules.specs.Shape.{ordinary, goesOn, writes, jumps, calls, shapeBy};
-ghost use Rattle.checks.specs.inner.Said.{writesSaid, shapeSaid};
+ghost use Rattle.rules.specs.Shape.{leads, pushes, pulls, stores, writes, jumps, calls, shapeBy};
+ghost use Rattle.checks.specs.inner.Said.{successorsSaid, writesSaid, shapeSaid};
 use instructions::form::Form;
 use opcodes::instruction::Address;
 use registers::Cycles;
@@ -22,11 +22,25 @@ pub enum Writes {
     Word(u16),
 }
 
+// An instruction that goes on inside its routine.
+pub struct Ordinary {
+    pub next: Successors,
+    pub pushed: StackBytes,
+    pub pulled: StackBytes,
+    pub writes: Writes,
+    pub cycles: Cycles,
+}
+
+// JSR and BSR.
+pub struct Call {
+    pub target: u16,
+    pub after: u16, // the following address
+    pub cycles: Cycles,
+}
+
 pub enum Shape {
-    // bytes pushed, bytes pulled
-    Ordinary(Successors, StackBytes, StackBytes, Writes, Cycles),
-    // JSR and BSR: the target and the following address
-    Call(u16, u16, Cycles),
+    Ordinary(Ordinary),
+    Call(Call),
     // RTS
     Return(Cycles),
     // document 01's "kept out"
@@ -34,29 +48,59 @@ pub enum Shape {
     Nothing,
 }
 
-fn goes_on(after: u16, pushed: u16, pulled: u16, k: Cycles) -> Shape
-    ensures { λ r. ⌜ shapeSaid r ≡ goesOn after pushed pulled (k .0) ⌝ }
+fn leads(next: Successors, k: Cycles) -> Shape
+    ensures { λ r. ⌜ shapeSaid r ≡ leads (successorsSaid next) (k .0) ⌝ }
 {
-    Shape::Ordinary(
-        Successors::One(after),
-        StackBytes(pushed),
-        StackBytes(pulled),
-        Writes::Nowhere,
-        k,
-    )
+    Shape::Ordinary(Ordinary {
+        next,
+        pushed: StackBytes(0),
+        pulled: StackBytes(0),
+        writes: Writes::Nowhere,
+        cycles: k,
+    })
 }
 
-fn writes_to(w: Writes, after: u16, k: Cycles) -> Shape
-    ensures { λ r. ⌜ shapeSaid r ≡ ordinary (after ∷ []) 0 0 (writesSaid w) (k .0) ⌝ }
+fn pushes(n: u16, after: u16, k: Cycles) -> Shape
+    ensures { λ r. ⌜ shapeSaid r ≡ pushes n after (k .0) ⌝ }
 {
-    Shape::Ordinary(Successors::One(after), StackBytes(0), StackBytes(0), w, k)
+    Shape::Ordinary(Ordinary {
+        next: Successors::One(after),
+        pushed: StackBytes(n),
+        pulled: StackBytes(0),
+        writes: Writes::Nowhere,
+        cycles: k,
+    })
+}
+
+fn pulls(n: u16, after: u16, k: Cycles) -> Shape
+    ensures { λ r. ⌜ shapeSaid r ≡ pulls n after (k .0) ⌝ }
+{
+    Shape::Ordinary(Ordinary {
+        next: Successors::One(after),
+        pushed: StackBytes(0),
+        pulled: StackBytes(n),
+        writes: Writes::Nowhere,
+        cycles: k,
+    })
+}
+
+fn stores(writes: Writes, after: u16, k: Cycles) -> Shape
+    ensures { λ r. ⌜ shapeSaid r ≡ stores (writesSaid writes) after (k .0) ⌝ }
+{
+    Shape::Ordinary(Ordinary {
+        next: Successors::One(after),
+        pushed: StackBytes(0),
+        pulled: StackBytes(0),
+        writes,
+        cycles: k,
+    })
 }
 
 fn writes_byte(p: Address, after: u16, k: Cycles) -> Shape
     ensures { λ r. ⌜ shapeSaid r ≡ writes p (λ a. a ∷ []) after (k .0) ⌝ }
 {
     match p {
-        Address::Fixed(a) => writes_to(Writes::Byte(a), after, k),
+        Address::Fixed(a) => stores(Writes::Byte(a), after, k),
         Address::IndexedX(_) => Shape::Forbidden,
         Address::IndexedY(_) => Shape::Forbidden,
     }
@@ -66,7 +110,7 @@ fn writes_word(p: Address, after: u16, k: Cycles) -> Shape
     ensures { λ r. ⌜ shapeSaid r ≡ writes p (λ a. a ∷ wrappingAdd a 1 ∷ []) after (k .0) ⌝ }
 {
     match p {
-        Address::Fixed(a) => writes_to(Writes::Word(a), after, k),
+        Address::Fixed(a) => stores(Writes::Word(a), after, k),
         Address::IndexedX(_) => Shape::Forbidden,
         Address::IndexedY(_) => Shape::Forbidden,
     }
@@ -76,7 +120,7 @@ fn jumps_to(p: Address, k: Cycles) -> Shape
     ensures { λ r. ⌜ shapeSaid r ≡ jumps p (k .0) ⌝ }
 {
     match p {
-        Address::Fixed(a) => goes_on(a, 0, 0, k),
+        Address::Fixed(a) => leads(Successors::One(a), k),
         Address::IndexedX(_) => Shape::Forbidden,
         Address::IndexedY(_) => Shape::Forbidden,
     }
@@ -86,22 +130,14 @@ fn calls_to(p: Address, after: u16, k: Cycles) -> Shape
     ensures { λ r. ⌜ shapeSaid r ≡ calls p after (k .0) ⌝ }
 {
     match p {
-        Address::Fixed(a) => Shape::Call(a, after, k),
+        Address::Fixed(a) => Shape::Call(Call {
+            target: a,
+            after,
+            cycles: k,
+        }),
         Address::IndexedX(_) => Shape::Forbidden,
         Address::IndexedY(_) => Shape::Forbidden,
     }
-}
-
-fn branches_to(t: u16, after: u16, k: Cycles) -> Shape
-    ensures { λ r. ⌜ shapeSaid r ≡ ordinary (t ∷ after ∷ []) 0 0 [] (k .0) ⌝ }
-{
-    Shape::Ordinary(
-        Successors::Two(t, after),
-        StackBytes(0),
-        StackBytes(0),
-        Writes::Nowhere,
-        k,
-    )
 }
 
 // By the form, the address after the instruction and its cycles.
@@ -109,16 +145,16 @@ pub fn shape_by(f: Form, after: u16, k: Cycles) -> Shape
     ensures { λ r. ⌜ shapeSaid r ≡ shapeBy f after (k .0) ⌝ }
 {
     match f {
-        Form::Computes => goes_on(after, 0, 0, k),
+        Form::Computes => leads(Successors::One(after), k),
         Form::StoresByte(p) => writes_byte(p, after, k),
         Form::StoresWord(p) => writes_word(p, after, k),
-        Form::PushesByte => goes_on(after, 1, 0, k),
-        Form::PushesWord => goes_on(after, 2, 0, k),
-        Form::PullsByte => goes_on(after, 0, 1, k),
-        Form::PullsWord => goes_on(after, 0, 2, k),
-        Form::Reserves => goes_on(after, 1, 0, k),
-        Form::Releases => goes_on(after, 0, 1, k),
-        Form::Branches(t) => branches_to(t, after, k),
+        Form::PushesByte => pushes(1, after, k),
+        Form::PushesWord => pushes(2, after, k),
+        Form::PullsByte => pulls(1, after, k),
+        Form::PullsWord => pulls(2, after, k),
+        Form::Reserves => pushes(1, after, k),
+        Form::Releases => pulls(1, after, k),
+        Form::Branches(t) => leads(Successors::Two(t, after), k),
         Form::Jumps(p) => jumps_to(p, k),
         Form::Calls(p) => calls_to(p, after, k),
         Form::Returns => Shape::Return(k),

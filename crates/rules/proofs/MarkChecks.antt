@@ -16,7 +16,7 @@ use Rattle.ticket.specs.Fields.{Fields}
 use Rattle.commands.specs.Every.{Every}
 use Rattle.ticket.specs.Rules.{In}
 use Rattle.ticket.proofs.Says.{leb-says, ltb-says, eqb-says}
-use Rattle.rules.specs.Shape.{Shape, ordinary, call, return, forbidden, nothing}
+use Rattle.rules.specs.Shape.{Ordinary, Call, Shape, ordinary, call, return, forbidden, nothing}
 use Rattle.rules.specs.Marks.{claimAt}
 use Rattle.rules.specs.Rules.{Follows, CallRules, RulesBy, RulesAt}
 use Rattle.rules.specs.Checks.{all, isMarked, nextMarked, depthsAgree, costsCover, needsCover, checksBy, checksAt, checksOfMarks}
@@ -32,15 +32,20 @@ written-says : (w : Window) (l : List ℕ) → (all (holds w) l ≡ true) ↔ Ev
 written-says w [] = (λ e. Every.none, λ r. refl)
 written-says w (a ∷ l) = simp (tests, written-says w l) (λ e. Every.more (e .0) (e .1), first)
 
+-- with other successors
+abbrev at : Ordinary → List ℕ → Ordinary
+at o l = record { next = l; pushed = o .pushed; pulled = o .pulled; written = o .written; cycles = o .cycles }
+
 -- the checks of causes 14 to 17 pass
 abbrev LeadsOn : Fields → Claim → Shape → Type 0
 LeadsOn f k s = (nextMarked f k s ≡ true) × (depthsAgree f k s ≡ true) × (costsCover f k s ≡ true) × (needsCover f k s ≡ true)
 
 module _ (f : Fields) (k : Claim) where
-  next-says : (pushed pulled cycles : ℕ) (l w : List ℕ) → LeadsOn f k (ordinary l pushed pulled w cycles) ↔ Every (Follows (f .marks) k pushed pulled cycles) l
-  next-says pushed pulled cycles [] w = (λ e. Every.none, λ r. (refl, refl, refl, refl))
-  next-says pushed pulled cycles (a ∷ l) w =
-      let rest = next-says pushed pulled cycles l w in
+  -- at the addresses l
+  next-says : (o : Ordinary) (l : List ℕ) → LeadsOn f k (ordinary (at o l)) ↔ Every (Follows (f .marks) k o) l
+  next-says o [] = (λ e. Every.none, λ r. (refl, refl, refl, refl))
+  next-says o (a ∷ l) =
+      let rest = next-says o l in
       simp tests (
         λ e.
             let c = marked (claimAt (f .marks) a) (e .0 .0) in
@@ -53,11 +58,11 @@ module _ (f : Fields) (k : Claim) where
             rw (h .marked) (simp tests (search)),
       )
 
-  call-says : (target after cycles : ℕ) → LeadsOn f k (call target after cycles) ↔ CallRules f k target after cycles
-  call-says target after cycles = simp tests (
+  call-says : (c : Call) → LeadsOn f k (call c) ↔ CallRules f k c
+  call-says c = simp tests (
     λ e.
-        let t = marked (claimAt (f .marks) target) (e .0 .0) in
-        let b = marked (claimAt (f .marks) after) (e .0 .1) in
+        let t = marked (claimAt (f .marks) (c .target)) (e .0 .0) in
+        let b = marked (claimAt (f .marks) (c .after)) (e .0 .1) in
         record {
           there = t .0;
           back = b .0;
@@ -74,11 +79,11 @@ module _ (f : Fields) (k : Claim) where
 
 -- by the shape of the instruction; i: it does not leave the code window
 shape-says : (f : Fields) (m : Mark) (s : Shape) (i : Bool) → Passes (checksBy f m s i) ↔ ((i ≡ true) × RulesBy f (m .claim) s)
-shape-says f m (ordinary next pushed pulled written cycles) i =
-    let n = next-says f (m .claim) pushed pulled cycles next written in
+shape-says f m (ordinary o) i =
+    let n = next-says f (m .claim) o (o .next) in
     simp (tests, written-says) (λ e. search (n .0), λ r. let t = n .1 (r .1 .follows) in search)
-shape-says f m (call target after cycles) i =
-    let n = call-says f (m .claim) target after cycles in
+shape-says f m (call c) i =
+    let n = call-says f (m .claim) c in
     (λ e. search (n .0), λ r. let t = n .1 (r .1) in search)
 shape-says f m (return cycles) i = simp tests (λ e. search, λ r. search)
 shape-says f m forbidden i = (λ e. search false≢true, λ r. absurd (r .1))

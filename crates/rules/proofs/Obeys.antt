@@ -27,7 +27,7 @@ use Rattle.instructions.specs.Effect.{effectBy, effectWith, effectOf}
 use Rattle.stepper.specs.Step.{Did, did, fetched, executed, carriedOut, didIf, didOf, after, stepOf}
 use Rattle.stepper.proofs.Costs.{step-cost}
 use Rattle.commands.specs.Every.{Every, none, more}
-use Rattle.rules.specs.Shape.{Shape, ordinary, call, return, forbidden, nothing, shapeBy, shapeIn, shapeOf}
+use Rattle.rules.specs.Shape.{Ordinary, Shape, ordinary, call, return, forbidden, nothing, shapeBy, shapeIn, shapeOf}
 use Rattle.stepper.specs.Flow.{calls, returns, plain, flowBy, flowIn, flowOf}
 
 -- some element of a list has a property
@@ -41,16 +41,16 @@ every-some (a ∷ l) (more p ps) (inl q) = (a, p, q)
 every-some (a ∷ l) (more p ps) (inr s) = every-some l ps s
 
 -- a store of an ordinary instruction: on the stack from SP down, above the SP that it leaves, or to one of the addresses written
-abbrev pub Stored : Registers → (pushed pulled : ℕ) → List ℕ → Store → Type 0
-Stored r pushed pulled written w = ((i : ℕ) × (i + pulled < pushed) × (w .at ≡ wrappingSub (r .sp) i)) ⊎ Some (λ a. w .at ≡ a) written
+abbrev pub Stored : Registers → Ordinary → Store → Type 0
+Stored r o w = ((i : ℕ) × (i + o .pulled < o .pushed) × (w .at ≡ wrappingSub (r .sp) i)) ⊎ Some (λ a. w .at ≡ a) (o .written)
 
 abbrev pub Obeys : Shape → Registers → List ℕ → Type 0
-Obeys (ordinary next pushed pulled written k) r m =
-    (q : Registers) × (ws : List Store) × (didOf r m ≡ did q ws k) × (flowOf m (r .pc) ≡ plain) × Some (λ a. q .pc ≡ a) next
-    × (q .sp ≡ (r .sp + pulled + (65536 - pushed)) % 65536) × Every (Stored r pushed pulled written) ws
-Obeys (call target after k) r m =
-    (q : Registers) × (didOf r m ≡ did q (store (r .sp) (after % 256) ∷ store (wrappingSub (r .sp) 1) (after / 256) ∷ []) k)
-    × (flowOf m (r .pc) ≡ calls) × (q .pc ≡ target) × (q .sp ≡ wrappingSub (r .sp) 2)
+Obeys (ordinary o) r m =
+    (q : Registers) × (ws : List Store) × (didOf r m ≡ did q ws (o .cycles)) × (flowOf m (r .pc) ≡ plain) × Some (λ a. q .pc ≡ a) (o .next)
+    × (q .sp ≡ (r .sp + o .pulled + (65536 - o .pushed)) % 65536) × Every (Stored r o) ws
+Obeys (call c) r m =
+    (q : Registers) × (didOf r m ≡ did q (store (r .sp) (c .after % 256) ∷ store (wrappingSub (r .sp) 1) (c .after / 256) ∷ []) (c .cycles))
+    × (flowOf m (r .pc) ≡ calls) × (q .pc ≡ c .target) × (q .sp ≡ wrappingSub (r .sp) 2)
 Obeys (return k) r m =
     (q : Registers) × (didOf r m ≡ did q [] k) × (flowOf m (r .pc) ≡ returns) × (q .pc ≡ wordAt m (wrappingAdd (r .sp) 1)) × (q .sp ≡ wrappingAdd (r .sp) 2)
 Obeys forbidden r m = Unit
@@ -67,9 +67,9 @@ module _ (r : Registers) (m : List ℕ) (low : r .sp < 65536) where
   kept = omega arith
 
   -- the first byte pushed goes to SP
-  top : (n v : ℕ) → 0 < n → Stored r n 0 [] (store (r .sp) v)
+  top : (n : ℕ) → 0 < n → (i : ℕ) × (i + 0 < n) × (r .sp ≡ wrappingSub (r .sp) i)
   unfolding wrappingSub
-  top n v h = inl (0, omega arith, omega arith)
+  top n h = (0, omega arith, omega arith)
 
   -- next is the address after the instruction; w is what it computed, which does not matter
   by-form : (g : Form) (next k : ℕ) (w : Outcome) → didOf r m ≡ executed (waits g) (r .pc) (effectWith g (withPc r next) w m) k
@@ -82,9 +82,9 @@ module _ (r : Registers) (m : List ℕ) (low : r .sp < 65536) where
   by-form (StoresWord (Fixed a)) next k w e h = (_, _, e, h, inl refl, kept, more (inr (inl refl)) (more (inr (inr (inl refl))) none))
   by-form (StoresWord (IndexedX d)) next k w e h = tt
   by-form (StoresWord (IndexedY d)) next k w e h = tt
-  by-form PushesByte next k w e h = (_, _, e, h, inl refl, omega arith, more (top 1 (w .value) (omega arith)) none)
+  by-form PushesByte next k w e h = (_, _, e, h, inl refl, omega arith, more (inl (top 1 (omega arith))) none)
   by-form PushesWord next k w e h =
-      (_, _, e, h, inl refl, omega arith, more (top 2 (w .value % 256) (omega arith)) (more (inl (1, omega arith, refl)) none))
+      (_, _, e, h, inl refl, omega arith, more (inl (top 2 (omega arith))) (more (inl (1, omega arith, refl)) none))
   by-form PullsByte next k w e h = (_, _, e, h, inl refl, omega arith, none)
   by-form PullsWord next k w e h = (_, _, e, h, inl refl, omega arith, none)
   by-form Reserves next k w e h = (_, _, e, h, inl refl, omega arith, none)

@@ -16,7 +16,7 @@ use Rattle.commands.proofs.Every.{every-map}
 use Rattle.ticket.specs.Fields.{Fields}
 use Rattle.commands.specs.Every.{Every, none, more}
 use Rattle.ticket.specs.Rules.{In, HeaderRules, MarkRules}
-use Rattle.rules.specs.Shape.{Shape, ordinary, call, return, forbidden, nothing, shapeOf}
+use Rattle.rules.specs.Shape.{Ordinary, Call, Shape, ordinary, call, return, forbidden, nothing, shapeOf}
 use Rattle.rules.specs.Marks.{claimAt, imageFrom}
 use Rattle.rules.specs.Rules.{Follows, OrdinaryRules, CallRules, ReturnRules, RulesBy, RulesAt, Accepted}
 use Rattle.stepper.specs.Flow.{flowOf}
@@ -94,27 +94,27 @@ module _ {f : Fields} {image : List ℕ} {A : Accepted f image} {r : Registers} 
     framed : Stacked f (A .start .need .0) (applied ws m) (R .base) (R .frames)
     framed = stack-kept f rules (R .base) low (A .start .need .0) m (R .frames) (R .stacked) ws P
 
-  module _ (next : List ℕ) (pushed pulled : ℕ) (written : List ℕ) (k : ℕ) (O : OrdinaryRules f (R .claim) next pushed pulled written k) where
-    placed : (a : ℕ) → Follows (f .marks) (R .claim) pushed pulled k a
-        → (w : Store) → Stored r pushed pulled written w → Placed f (R .base) w
+  module _ (o : Ordinary) (O : OrdinaryRules f (R .claim) o) where
+    placed : (a : ℕ) → Follows (f .marks) (R .claim) o a
+        → (w : Store) → Stored r o w → Placed f (R .base) w
     placed a F w (inl (i, h, e)) =
         let d : wrappingSub (r .sp) i + i ≡ r .sp = less-is (r .sp) i (omega (arith, small, R .depth)) (omega (arith, free, F .need, rules .stack-start)) in
         inl (omega (arith, free, F .need), omega (arith, R .depth))
     placed a F w (inr h) =
-        let s : (x : ℕ) × In (f .header .«data») x × (w .at ≡ x) = every-some written (O .stores) h in
+        let s : (x : ℕ) × In (f .header .«data») x × (w .at ≡ x) = every-some (o .written) (O .stores) h in
         inr (rw (s .2) (s .1))
 
-    by-ordinary : Obeys (ordinary next pushed pulled written k) r m → Stepped A r m used p
+    by-ordinary : Obeys (ordinary o) r m → Stepped A r m used p
     by-ordinary (q, ws, done, flow, goes, sp, stores) =
-        let s : (x : ℕ) × Follows (f .marks) (R .claim) pushed pulled k x × (q .pc ≡ x) = every-some next (O .follows) goes in
-        let F : Follows (f .marks) (R .claim) pushed pulled k (s .0) = s .1 in
+        let s : (x : ℕ) × Follows (f .marks) (R .claim) o x × (q .pc ≡ x) = every-some (o .next) (O .follows) goes in
+        let F : Follows (f .marks) (R .claim) o (s .0) = s .1 in
         let P : Every (Placed f (R .base)) ws = every-map (placed (s .0) F) stores in
-        let e : q .sp + pushed ≡ r .sp + pulled =
-        rw sp (moved-is (r .sp) pulled pushed (omega (arith, free, F .need, rules .stack-start)) (omega (arith, small, R .depth, O .pulls))) in
+        let e : q .sp + o .pushed ≡ r .sp + o .pulled =
+        rw sp (moved-is (r .sp) (o .pulled) (o .pushed) (omega (arith, free, F .need, rules .stack-start)) (omega (arith, small, R .depth, O .pulls))) in
         record {
           registers = q;
           stores = ws;
-          cycles = k;
+          cycles = o .cycles;
           left = F .there .cost .0 + owed (R .frames);
           done = done;
           spares = spared ws P;
@@ -134,26 +134,26 @@ module _ {f : Fields} {image : List ℕ} {A : Accepted f image} {r : Registers} 
           });
         }
 
-  by-call : (target after k : ℕ) → CallRules f (R .claim) target after k → Obeys (call target after k) r m → Stepped A r m used p
-  by-call target after k C (q, done, flow, pc, sp) =
+  by-call : (c : Call) → CallRules f (R .claim) c → Obeys (call c) r m → Stepped A r m used p
+  by-call c C (q, done, flow, pc, sp) =
       let one : wrappingSub (r .sp) 1 + 1 ≡ r .sp = less-is (r .sp) 1 (omega (arith, small, R .depth)) (omega (arith, free, C .there-need, rules .stack-start)) in
       let e2 : r .sp ≡ q .sp + 2 = rw sp (sym (less-is (r .sp) 2 (omega (arith, small, R .depth)) (omega (arith, free, C .there-need, rules .stack-start)))) in
       let e1 : wrappingSub (r .sp) 1 ≡ q .sp + 1 = omega arith in
-      let ws : List Store = pushStores (r .sp) after in
+      let ws : List Store = pushStores (r .sp) (c .after) in
       let P : Every (Placed f (R .base)) ws =
-      more {a = store (r .sp) (after % 256)} (inl (omega (arith, free, C .there-need), omega (arith, R .depth)))
-      (more {a = store (wrappingSub (r .sp) 1) (after / 256)} (inl (omega (arith, free, C .there-need), omega (arith, R .depth))) none) in
+      more {a = store (r .sp) (c .after % 256)} (inl (omega (arith, free, C .there-need), omega (arith, R .depth)))
+      (more {a = store (wrappingSub (r .sp) 1) (c .after / 256)} (inl (omega (arith, free, C .there-need), omega (arith, R .depth))) none) in
       record {
         registers = q;
         stores = ws;
-        cycles = k;
+        cycles = c .cycles;
         left = C .there .cost .0 + (C .back .cost .0 + owed (R .frames));
         done = done;
         spares = spared ws P;
         cost = omega (arith, C .cost, R .cost);
         goes = inr (record {
           base = q .sp;
-          frames = record { address = after; claim = C .back; base = R .base } ∷ R .frames;
+          frames = record { address = c .after; claim = C .back; base = R .base } ∷ R .frames;
           claim = C .there;
           whole = length-applied ws m ∙ R .whole;
           code = filled ws P;
@@ -165,7 +165,7 @@ module _ {f : Fields} {image : List ℕ} {A : Accepted f image} {r : Registers} 
               marked = C .back-marked;
               base = omega (arith, C .back-depth, R .depth);
               room = omega (arith, C .back-need, R .room);
-              holds = pushed-holds m (r .sp) (q .sp) after e2 (omega (arith, R .whole, small, R .depth)) (omega (arith, small, R .depth));
+              holds = pushed-holds m (r .sp) (q .sp) (c .after) e2 (omega (arith, R .whole, small, R .depth)) (omega (arith, small, R .depth));
             },
             framed ws P,
           );
@@ -207,8 +207,8 @@ module _ {f : Fields} {image : List ℕ} {A : Accepted f image} {r : Registers} 
       }
 
   by-shape : (s : Shape) → RulesBy f (R .claim) s → Obeys s r m → Stepped A r m used p
-  by-shape (ordinary next pushed pulled written k) C O = by-ordinary next pushed pulled written k C O
-  by-shape (call target after k) C O = by-call target after k C O
+  by-shape (ordinary o) C O = by-ordinary o C O
+  by-shape (call c) C O = by-call c C O
   by-shape (return k) C O = by-return k C O
   by-shape forbidden C O = absurd C
   by-shape nothing C O = absurd C

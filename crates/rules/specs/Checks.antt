@@ -13,7 +13,7 @@ use Rattle.ticket.specs.Fields.{Fields, Outcome, read, refused}
 use Rattle.ticket.specs.Read.{refusal, readOf}
 use Rattle.answers.specs.declared.Verdict.{Verdict}
 use Rattle.answers.specs.declared.Verdict.the-variants.{Accept, Refuse}
-use Rattle.rules.specs.Shape.{Shape, ordinary, call, return, forbidden, nothing, shapeOf, instructionSize}
+use Rattle.rules.specs.Shape.{Ordinary, Shape, ordinary, call, return, forbidden, nothing, shapeOf, instructionSize}
 use Rattle.rules.specs.Marks.{claimAt, imageFrom}
 
 -- a test, with the number of its cause and its place
@@ -44,14 +44,14 @@ onMark p none = true
 onMark p (some c) = p c
 
 -- the claim c at a successor of an ordinary instruction, against the mark's own claim k
-abbrev pub depthAgrees : Claim → ℕ → ℕ → Claim → Bool
-depthAgrees k pushed pulled c = eqb (c .depth .0 + pulled) (k .depth .0 + pushed)
+abbrev pub depthAgrees : Claim → Ordinary → Claim → Bool
+depthAgrees k o c = eqb (c .depth .0 + o .pulled) (k .depth .0 + o .pushed)
 
 abbrev pub costCovers : Claim → ℕ → Claim → Bool
 costCovers k cycles c = leb (cycles + c .cost .0) (k .cost .0)
 
-abbrev pub needCovers : Claim → ℕ → ℕ → Claim → Bool
-needCovers k pushed pulled c = leb (pushed + c .need .0) (k .need .0 + pulled)
+abbrev pub needCovers : Claim → Ordinary → Claim → Bool
+needCovers k o c = leb (o .pushed + c .need .0) (k .need .0 + o .pulled)
 
 abbrev pub hasDepth : ℕ → Claim → Bool
 hasDepth d c = eqb (c .depth .0) d
@@ -68,64 +68,64 @@ abbrev pub needCoversAfter : Claim → Claim → Bool
 needCoversAfter k c = leb (c .need .0) (k .need .0)
 
 abbrev pub exists : Shape → Bool
-exists (ordinary next pushed pulled written cycles) = true
-exists (call target after cycles) = true
+exists (ordinary o) = true
+exists (call c) = true
 exists (return cycles) = true
 exists forbidden = true
 exists nothing = false
 
 abbrev pub allowed : Shape → Bool
-allowed (ordinary next pushed pulled written cycles) = true
-allowed (call target after cycles) = true
+allowed (ordinary o) = true
+allowed (call c) = true
 allowed (return cycles) = true
 allowed forbidden = false
 allowed nothing = true
 
 module _ (f : Fields) (k : Claim) where
   abbrev pub writesInData : Shape → Bool
-  writesInData (ordinary next pushed pulled written cycles) = all (holds (f .header .«data»)) written
-  writesInData (call target after cycles) = true
+  writesInData (ordinary o) = all (holds (f .header .«data»)) (o .written)
+  writesInData (call c) = true
   writesInData (return cycles) = true
   writesInData forbidden = true
   writesInData nothing = true
 
   abbrev pub pullsWithinDepth : Shape → Bool
-  pullsWithinDepth (ordinary next pushed pulled written cycles) = leb pulled (k .depth .0)
-  pullsWithinDepth (call target after cycles) = true
+  pullsWithinDepth (ordinary o) = leb (o .pulled) (k .depth .0)
+  pullsWithinDepth (call c) = true
   pullsWithinDepth (return cycles) = eqb (k .depth .0) 0
   pullsWithinDepth forbidden = true
   pullsWithinDepth nothing = true
 
   abbrev pub nextMarked : Shape → Bool
-  nextMarked (ordinary next pushed pulled written cycles) = all (λ a. isMarked (claimAt (f .marks) a)) next
-  nextMarked (call target after cycles) = isMarked (claimAt (f .marks) target) && isMarked (claimAt (f .marks) after)
+  nextMarked (ordinary o) = all (λ a. isMarked (claimAt (f .marks) a)) (o .next)
+  nextMarked (call c) = isMarked (claimAt (f .marks) (c .target)) && isMarked (claimAt (f .marks) (c .after))
   nextMarked (return cycles) = true
   nextMarked forbidden = true
   nextMarked nothing = true
 
   abbrev pub depthsAgree : Shape → Bool
-  depthsAgree (ordinary next pushed pulled written cycles) =
-      all (λ a. onMark (depthAgrees k pushed pulled) (claimAt (f .marks) a)) next
-  depthsAgree (call target after cycles) =
-      onMark (hasDepth 0) (claimAt (f .marks) target) && onMark (hasDepth (k .depth .0)) (claimAt (f .marks) after)
+  depthsAgree (ordinary o) =
+      all (λ a. onMark (depthAgrees k o) (claimAt (f .marks) a)) (o .next)
+  depthsAgree (call c) =
+      onMark (hasDepth 0) (claimAt (f .marks) (c .target)) && onMark (hasDepth (k .depth .0)) (claimAt (f .marks) (c .after))
   depthsAgree (return cycles) = true
   depthsAgree forbidden = true
   depthsAgree nothing = true
 
   abbrev pub costsCover : Shape → Bool
-  costsCover (ordinary next pushed pulled written cycles) =
-      all (λ a. onMark (costCovers k cycles) (claimAt (f .marks) a)) next
-  costsCover (call target after cycles) =
-      onMark (λ t. onMark (λ b. costCoversCall k cycles t b) (claimAt (f .marks) after)) (claimAt (f .marks) target)
+  costsCover (ordinary o) =
+      all (λ a. onMark (costCovers k (o .cycles)) (claimAt (f .marks) a)) (o .next)
+  costsCover (call c) =
+      onMark (λ t. onMark (λ b. costCoversCall k (c .cycles) t b) (claimAt (f .marks) (c .after))) (claimAt (f .marks) (c .target))
   costsCover (return cycles) = leb cycles (k .cost .0)
   costsCover forbidden = true
   costsCover nothing = true
 
   abbrev pub needsCover : Shape → Bool
-  needsCover (ordinary next pushed pulled written cycles) =
-      all (λ a. onMark (needCovers k pushed pulled) (claimAt (f .marks) a)) next
-  needsCover (call target after cycles) =
-      onMark (needCoversTarget k) (claimAt (f .marks) target) && onMark (needCoversAfter k) (claimAt (f .marks) after)
+  needsCover (ordinary o) =
+      all (λ a. onMark (needCovers k o) (claimAt (f .marks) a)) (o .next)
+  needsCover (call c) =
+      onMark (needCoversTarget k) (claimAt (f .marks) (c .target)) && onMark (needCoversAfter k) (claimAt (f .marks) (c .after))
   needsCover (return cycles) = true
   needsCover forbidden = true
   needsCover nothing = true

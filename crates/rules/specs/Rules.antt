@@ -14,30 +14,30 @@ use Rattle.ticket.specs.Write.{bytesOf}
 use Rattle.ticket.specs.RoundTrip.{FitsFields}
 use Rattle.commands.specs.Every.{Every}
 use Rattle.ticket.specs.Rules.{In, Readable}
-use Rattle.rules.specs.Shape.{Shape, ordinary, call, return, forbidden, nothing, shapeOf, instructionSize}
+use Rattle.rules.specs.Shape.{Ordinary, Call, Shape, ordinary, call, return, forbidden, nothing, shapeOf, instructionSize}
 use Rattle.rules.specs.Marks.{claimAt, imageFrom}
 
 -- at a successor of an ordinary instruction
-pub record Follows (ms : List Mark) (k : Claim) (pushed pulled cycles : ℕ) (a : ℕ) : Type 0 where
+pub record Follows (ms : List Mark) (k : Claim) (o : Ordinary) (a : ℕ) : Type 0 where
   pub there : Claim
   pub marked : claimAt ms a ≡ some there
-  pub depth : there .depth .0 + pulled ≡ k .depth .0 + pushed
-  pub cost : cycles + there .cost .0 ≤ k .cost .0
-  pub need : pushed + there .need .0 ≤ k .need .0 + pulled
+  pub depth : there .depth .0 + o .pulled ≡ k .depth .0 + o .pushed
+  pub cost : o .cycles + there .cost .0 ≤ k .cost .0
+  pub need : o .pushed + there .need .0 ≤ k .need .0 + o .pulled
 
-pub record OrdinaryRules (f : Fields) (k : Claim) (next : List ℕ) (pushed pulled : ℕ) (written : List ℕ) (cycles : ℕ) : Type 0 where
-  pub stores : Every (In (f .header .«data»)) written
-  pub pulls : pulled ≤ k .depth .0
-  pub follows : Every (Follows (f .marks) k pushed pulled cycles) next
+pub record OrdinaryRules (f : Fields) (k : Claim) (o : Ordinary) : Type 0 where
+  pub stores : Every (In (f .header .«data»)) (o .written)
+  pub pulls : o .pulled ≤ k .depth .0
+  pub follows : Every (Follows (f .marks) k o) (o .next)
 
-pub record CallRules (f : Fields) (k : Claim) (target after cycles : ℕ) : Type 0 where
+pub record CallRules (f : Fields) (k : Claim) (c : Call) : Type 0 where
   pub there : Claim
   pub back : Claim
-  pub there-marked : claimAt (f .marks) target ≡ some there
-  pub back-marked : claimAt (f .marks) after ≡ some back
+  pub there-marked : claimAt (f .marks) (c .target) ≡ some there
+  pub back-marked : claimAt (f .marks) (c .after) ≡ some back
   pub there-depth : there .depth .0 ≡ 0
   pub back-depth : back .depth .0 ≡ k .depth .0
-  pub cost : cycles + there .cost .0 + back .cost .0 ≤ k .cost .0
+  pub cost : c .cycles + there .cost .0 + back .cost .0 ≤ k .cost .0
   pub there-need : 2 + there .need .0 ≤ k .need .0
   pub back-need : back .need .0 ≤ k .need .0
 
@@ -47,8 +47,8 @@ pub record ReturnRules (k : Claim) (cycles : ℕ) : Type 0 where
   pub cost : cycles ≤ k .cost .0
 
 abbrev pub RulesBy : Fields → Claim → Shape → Type 0
-RulesBy f k (ordinary next pushed pulled written cycles) = OrdinaryRules f k next pushed pulled written cycles
-RulesBy f k (call target after cycles) = CallRules f k target after cycles
+RulesBy f k (ordinary o) = OrdinaryRules f k o
+RulesBy f k (call c) = CallRules f k c
 RulesBy f k (return cycles) = ReturnRules k cycles
 RulesBy f k forbidden = ⊥
 RulesBy f k nothing = ⊥

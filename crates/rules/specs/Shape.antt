@@ -13,50 +13,76 @@ use Rattle.opcodes.specs.declared.instruction.Decoded.the-variants.{Instruction
 use Rattle.instructions.specs.declared.form.Form.{Form}
 use Rattle.instructions.specs.declared.form.Form.the-variants.{Computes, StoresByte, StoresWord, PushesByte, PushesWord, PullsByte, PullsWord, Reserves, Releases, Branches, Jumps, Calls, Returns, MovesSp, Interrupts, Resumes, Waits}
 
+-- goes on inside its routine
+pub record Ordinary : Type 0 where
+  -- the addresses that may come next
+  pub next : List ℕ
+  -- bytes, on the stack
+  pub pushed : ℕ
+  pub pulled : ℕ
+  -- the addresses that a direct or extended write stores to
+  pub written : List ℕ
+  pub cycles : ℕ
+
+-- JSR and BSR
+pub record Call : Type 0 where
+  pub target : ℕ
+  -- the following address
+  pub after : ℕ
+  pub cycles : ℕ
+
 pub data Shape : Type 0 where
-  -- the addresses that may come next; bytes pushed; bytes pulled; the addresses that a direct or extended write stores to; cycles
-  ordinary : (next : List ℕ) (pushed pulled : ℕ) (written : List ℕ) (cycles : ℕ) → Shape
-  -- JSR and BSR: the target; the following address; cycles
-  call : (target after cycles : ℕ) → Shape
-  -- RTS: cycles
+  ordinary : Ordinary → Shape
+  call : Call → Shape
+  -- RTS
   return : (cycles : ℕ) → Shape
   -- document 01's "kept out"
   forbidden : Shape
   nothing : Shape
 
--- an instruction that only goes on
-abbrev pub goesOn : ℕ → ℕ → ℕ → ℕ → Shape
-goesOn after pushed pulled k = ordinary (after ∷ []) pushed pulled [] k
+-- only goes on, to one of these addresses
+abbrev pub leads : List ℕ → ℕ → Shape
+leads next k = ordinary (record { next = next; pushed = 0; pulled = 0; written = []; cycles = k })
+
+abbrev pub pushes : ℕ → ℕ → ℕ → Shape
+pushes n after k = ordinary (record { next = after ∷ []; pushed = n; pulled = 0; written = []; cycles = k })
+
+abbrev pub pulls : ℕ → ℕ → ℕ → Shape
+pulls n after k = ordinary (record { next = after ∷ []; pushed = 0; pulled = n; written = []; cycles = k })
+
+abbrev pub stores : List ℕ → ℕ → ℕ → Shape
+stores written after k =
+    ordinary (record { next = after ∷ []; pushed = 0; pulled = 0; written = written; cycles = k })
 
 -- indexed writes, jumps and calls are forbidden: where they lead is not known
 abbrev pub writes : Address → (ℕ → List ℕ) → ℕ → ℕ → Shape
-writes (Fixed a) bytes after k = ordinary (after ∷ []) 0 0 (bytes a) k
+writes (Fixed a) bytes after k = stores (bytes a) after k
 writes (IndexedX d) bytes after k = forbidden
 writes (IndexedY d) bytes after k = forbidden
 
 abbrev pub jumps : Address → ℕ → Shape
-jumps (Fixed a) k = ordinary (a ∷ []) 0 0 [] k
+jumps (Fixed a) k = leads (a ∷ []) k
 jumps (IndexedX d) k = forbidden
 jumps (IndexedY d) k = forbidden
 
 abbrev pub calls : Address → ℕ → ℕ → Shape
-calls (Fixed a) after k = call a after k
+calls (Fixed a) after k = call (record { target = a; after = after; cycles = k })
 calls (IndexedX d) after k = forbidden
 calls (IndexedY d) after k = forbidden
 
 -- by the form, the address after the instruction and its cycles. DES counts as one pushed, INS as one pulled. LDS, TXS, TYS, SWI, RTI, WAI, STOP and
 -- TEST are forbidden
 abbrev pub shapeBy : Form → ℕ → ℕ → Shape
-shapeBy Computes after k = goesOn after 0 0 k
+shapeBy Computes after k = leads (after ∷ []) k
 shapeBy (StoresByte p) after k = writes p (λ a. a ∷ []) after k
 shapeBy (StoresWord p) after k = writes p (λ a. a ∷ wrappingAdd a 1 ∷ []) after k
-shapeBy PushesByte after k = goesOn after 1 0 k
-shapeBy PushesWord after k = goesOn after 2 0 k
-shapeBy PullsByte after k = goesOn after 0 1 k
-shapeBy PullsWord after k = goesOn after 0 2 k
-shapeBy Reserves after k = goesOn after 1 0 k
-shapeBy Releases after k = goesOn after 0 1 k
-shapeBy (Branches t) after k = ordinary (t ∷ after ∷ []) 0 0 [] k
+shapeBy PushesByte after k = pushes 1 after k
+shapeBy PushesWord after k = pushes 2 after k
+shapeBy PullsByte after k = pulls 1 after k
+shapeBy PullsWord after k = pulls 2 after k
+shapeBy Reserves after k = pushes 1 after k
+shapeBy Releases after k = pulls 1 after k
+shapeBy (Branches t) after k = leads (t ∷ after ∷ []) k
 shapeBy (Jumps p) after k = jumps p k
 shapeBy (Calls p) after k = calls p after k
 shapeBy Returns after k = return k

@@ -6,7 +6,7 @@ use mathlib.Core.List.{List, [], _∷_}
 use Rattle.checks.specs.declared.shape.Successors.{Successors}
 use Rattle.checks.specs.declared.shape.Successors.the-variants.{One, Two}
 use Rattle.checks.specs.declared.shape.Shape.{Shape}
-use Rattle.checks.specs.declared.shape.Shape.the-variants.{Ordinary, Call, Return, Forbidden, Nothing}
+use Rattle.checks.specs.declared.shape.Shape.the-variants as Shape
 use Rattle.ticket.specs.declared.fields.Mark.{Mark}
 use Rattle.checks.specs.declared.mark.Marked.{Marked}
 use Rattle.checks.specs.declared.mark.Marked.the-variants.{Unmarked, At}
@@ -25,18 +25,18 @@ secondIn (Two a b) = b
 
 -- a call's target comes first, then the following address. A shape without successors has none to look for
 abbrev pub firstNext : Shape → ℕ
-firstNext (Ordinary next pushed pulled written cycles) = firstIn next
-firstNext (Call target after cycles) = target
-firstNext (Return cycles) = 0
-firstNext Forbidden = 0
-firstNext Nothing = 0
+firstNext (Shape.Ordinary o) = firstIn (o .next)
+firstNext (Shape.Call c) = c .target
+firstNext (Shape.Return cycles) = 0
+firstNext Shape.Forbidden = 0
+firstNext Shape.Nothing = 0
 
 abbrev pub secondNext : Shape → ℕ
-secondNext (Ordinary next pushed pulled written cycles) = secondIn next
-secondNext (Call target after cycles) = after
-secondNext (Return cycles) = 0
-secondNext Forbidden = 0
-secondNext Nothing = 0
+secondNext (Shape.Ordinary o) = secondIn (o .next)
+secondNext (Shape.Call c) = c .after
+secondNext (Shape.Return cycles) = 0
+secondNext Shape.Forbidden = 0
+secondNext Shape.Nothing = 0
 
 -- the claim of a mark that is there
 abbrev pub markedIf : Bool → Mark → Marked

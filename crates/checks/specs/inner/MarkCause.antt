@@ -11,8 +11,10 @@ use Rattle.commands.specs.declared.command.Window.{Window}
 use Rattle.rules.specs.Checks.{depthAgrees, costCovers, needCovers, hasDepth, costCoversCall, needCoversTarget, needCoversAfter}
 use Rattle.checks.specs.declared.shape.Writes.{Writes}
 use Rattle.checks.specs.declared.shape.Writes.the-variants.{Nowhere, Byte, Word}
+use Rattle.checks.specs.declared.shape.Ordinary.{Ordinary}
 use Rattle.checks.specs.declared.shape.Shape.{Shape}
-use Rattle.checks.specs.declared.shape.Shape.the-variants.{Ordinary, Call, Return, Forbidden, Nothing}
+use Rattle.checks.specs.declared.shape.Shape.the-variants as Shape
+use Rattle.checks.specs.inner.Said.{ordinarySaid}
 use Rattle.checks.specs.declared.mark.Marked.{Marked}
 use Rattle.checks.specs.declared.mark.Marked.the-variants.{Unmarked, At}
 
@@ -26,10 +28,13 @@ inData w Nowhere = true
 inData w (Byte a) = holds w a
 inData w (Word a) = holds w a && holds w (wrappingAdd a 1)
 
-abbrev pub followsOf : Claim → ℕ → ℕ → ℕ → Claim → Claim → ℕ
-followsOf k pushed pulled cycles x y =
-    cond (depthAgrees k pushed pulled x && depthAgrees k pushed pulled y)
-    (cond (costCovers k cycles x && costCovers k cycles y) (cond (needCovers k pushed pulled x && needCovers k pushed pulled y) 0 17) 16)
+-- x and y are the claims at both successors; where there is one, it stands twice
+abbrev pub followsOf : Claim → Ordinary → Claim → Claim → ℕ
+followsOf k o x y =
+    cond (depthAgrees k (ordinarySaid o) x && depthAgrees k (ordinarySaid o) y)
+    (cond (costCovers k (o .cycles .0) x && costCovers k (o .cycles .0) y)
+    (cond (needCovers k (ordinarySaid o) x && needCovers k (ordinarySaid o) y) 0 17)
+    16)
     15
 
 -- 14 unless there are claims at both addresses
@@ -38,9 +43,9 @@ bothMarked Unmarked b f = 14
 bothMarked (At x) Unmarked f = 14
 bothMarked (At x) (At y) f = f x y
 
-abbrev pub ordinaryOf : Window → Claim → ℕ → ℕ → Writes → ℕ → Marked → Marked → ℕ
-ordinaryOf w k pushed pulled written cycles a b =
-    cond (inData w written) (cond (leb pulled (k .depth .0)) (bothMarked a b (followsOf k pushed pulled cycles)) 13) 12
+abbrev pub ordinaryOf : Window → Claim → Ordinary → Marked → Marked → ℕ
+ordinaryOf w k o a b =
+    cond (inData w (o .writes)) (cond (leb (o .pulled .0) (k .depth .0)) (bothMarked a b (followsOf k o)) 13) 12
 
 abbrev pub calledOf : Claim → ℕ → Claim → Claim → ℕ
 calledOf k cycles x y =
@@ -56,11 +61,11 @@ returnOf k cycles = cond (eqb (k .depth .0) 0) (cond (leb cycles (k .cost .0)) 0
 
 -- with the instruction inside the code window
 abbrev pub insideOf : Window → Claim → Shape → Marked → Marked → ℕ
-insideOf w k (Ordinary next pushed pulled written cycles) a b = ordinaryOf w k (pushed .0) (pulled .0) written (cycles .0) a b
-insideOf w k (Call target after cycles) a b = callOf k (cycles .0) a b
-insideOf w k (Return cycles) a b = returnOf k (cycles .0)
-insideOf w k Forbidden a b = 11
-insideOf w k Nothing a b = 10
+insideOf w k (Shape.Ordinary o) a b = ordinaryOf w k o a b
+insideOf w k (Shape.Call c) a b = callOf k (c .cycles .0) a b
+insideOf w k (Shape.Return cycles) a b = returnOf k (cycles .0)
+insideOf w k Shape.Forbidden a b = 11
+insideOf w k Shape.Nothing a b = 10
 
 unfoldable pub markCauseOf : Window → Claim → Shape → Bool → Marked → Marked → ℕ
 markCauseOf w k s inside a b = cond inside (insideOf w k s a b) 10

@@ -8,6 +8,6 @@ pub jumps-to-spec : {M : Type 1} → statement M
 jumps-to-spec =
     tie.close
     (tie.spec (search needs) (search needs) (search needs) (search needs)
-    (λ c. simp (c .goes-on .ensures, c .before .before .p .given .1))
+    (λ c. simp (c .leads .ensures, c .before .before .p .given .1))
     (λ c. simp (c .enum-told .given .1))
     (λ c. simp (c .enum-told2 .given .1)))
