@@ -17,9 +17,9 @@ use Rattle.verdict.specs.declared.Started.{Started}
 use Rattle.verdict.specs.declared.Started.the-variants.{At, Refused}
 use Rattle.monitor.specs.RegisterBytes.{unpacked}
 use Rattle.monitor.proofs.RegisterRoundTrip.{unpacked-packed}
-use Rattle.monitor.specs.Slot.{headerIn, costIn, stackIn}
+use Rattle.monitor.specs.Slot.{certificateIn}
 use Rattle.monitor.specs.RoutineCalls.{VerdictCall, ofVerdict, StartCall, ofStarted, CertifyCall, ofAdmission}
-use Rattle.monitor.proofs.SlotRoundTrip.{header-in-slot, cost-in-slot, stack-in-slot}
+use Rattle.monitor.proofs.SlotRoundTrip.{certificate-in-slot}
 
 -- as every refusal of the verdict and of a start is
 abbrev pub Numbered : Refusal → Type 0
@@ -34,7 +34,7 @@ NumberedStart (At q) = Unit
 NumberedStart (Refused r) = Numbered r
 
 abbrev pub NumberedAdmission : Admission → Type 0
-NumberedAdmission (Admission.Granted h c s) = Unit
+NumberedAdmission (Admission.Granted c) = Unit
 NumberedAdmission (Admission.Refused r) = Numbered r
 
 abbrev refusalFrom : (number place : ℕ) → Refusal
@@ -54,7 +54,7 @@ abbrev admissionFrom : CertifyCall → Admission
 admissionFrom f =
     cond
     (eqb (f .outcome) 0)
-    (Admission.Granted (headerIn (f .slot)) (costIn (f .slot)) (stackIn (f .slot)))
+    (Admission.Granted (certificateIn (f .slot)))
     (Admission.Refused (refusalFrom (f .outcome) (f .place)))
 
 module _ (e c s p : ℕ) where
@@ -77,7 +77,7 @@ module _ (p : ℕ) (rs m : List ℕ) where
 
 module _ (p : ℕ) (slot : List ℕ) where
   admission-back : (a : Admission) → NumberedAdmission a → admissionFrom (ofAdmission a p slot) ≡ a
-  admission-back (Admission.Granted h c s) n = rw (header-in-slot h c s, cost-in-slot h c s, stack-in-slot h c s)
+  admission-back (Admission.Granted c) n = rw (certificate-in-slot c)
   admission-back (Admission.Refused r) n = rw (ne-eqb _ _ n)
 
   pub admissions-apart : (a b : Admission) → NumberedAdmission a → NumberedAdmission b

@@ -1,18 +1,16 @@
 -- Every start from a slot that was filled comes home.
 -- Assumes nothing.
 use Prim.Native.Nat.{ℕ}
-use mathlib.Core.Path.{_≡_, refl, sym, _∙_}
+use mathlib.Core.Path.{_≡_, refl, _∙_}
 use mathlib.Core.Bool.{Bool, true, false, cond}
 use mathlib.Core.List.{List}
 use native.Mathlib.Omega.{arith}
 use borrow.Author.Tests.{eq-eqb}
 use lib.Dec.{eqb}
 use lib.ListN.{length}
-use Rattle.registers.specs.declared.Cycles.{Cycles}
-use Rattle.registers.specs.declared.StackBytes.{StackBytes}
 use Rattle.registers.specs.Registers.{dataOf}
-use Rattle.commands.specs.declared.prefix.Header.{Header}
 use Rattle.commands.specs.Number.{AllBytes}
+use Rattle.verdict.specs.declared.Certificate.{Certificate}
 use Rattle.verdict.specs.declared.Admission.{Admission}
 use Rattle.verdict.specs.declared.Admission.the-variants.{Granted, Refused}
 use Rattle.verdict.specs.Admission.{admittedOf}
@@ -23,26 +21,20 @@ use Rattle.monitor.specs.RegisterBytes.{packed, unpacked}
 use Rattle.monitor.specs.Slot.{slotOf}
 use Rattle.monitor.specs.RoutineCalls.{startCall, CertifyCall, certifyCall, ofAdmission, certifyBytesOf, startSlotOf}
 use Rattle.monitor.specs.Home.{SlotComesHome, FilledSlotComesHome, StartsFromFilledSlot}
-use Rattle.monitor.proofs.SlotRoundTrip.{slot-length, header-in-slot, cost-in-slot, stack-in-slot}
+use Rattle.monitor.proofs.SlotRoundTrip.{slot-length, header-in-slot, certificate-in-slot}
 use Rattle.monitor.proofs.BytesHome.{packed-come-home}
 
 module _ (ticket image : List ℕ) (bytes : AllBytes ticket) where
   -- the slot's header is the admitted one, and a start by it comes home
-  slot-comes-home : (h : Header) (cost : Cycles) (stack : StackBytes) → admittedOf ticket image ≡ Granted h cost stack
-      → SlotComesHome ticket image (slotOf h cost stack)
+  slot-comes-home : (c : Certificate) → admittedOf ticket image ≡ Granted c → SlotComesHome ticket image (slotOf c)
   unfolding startSlotOf
-  slot-comes-home h cost stack e p rs m eleven whole =
-      let S = admitted-comes-home ticket image bytes h cost stack e (dataOf (unpacked rs)) m whole in
-      let H = packed-come-home ticket image (S .0) (loadedOf h image m) (S .2) in
-      let slot = slotOf h cost stack in
-      let started : startSlotOf p slot image rs m ≡ startCall 0 p (packed (S .0)) (loadedOf h image m) =
-      rw (header-in-slot h cost stack, eq-eqb _ _ (slot-length h cost stack), eq-eqb _ _ eleven, S .1) in
-      rw started (
-        refl,
-        H .0,
-        H .1 ∙ S .3 ∙ sym (cost-in-slot h cost stack),
-        H .2 ∙ S .4 ∙ sym (stack-in-slot h cost stack),
-      )
+  slot-comes-home c e p rs m eleven whole =
+      let S = admitted-comes-home ticket image bytes c e (dataOf (unpacked rs)) m whole in
+      let after = loadedOf (c .header) image m in
+      let H = packed-come-home ticket image (S .0) after (S .2) in
+      let started : startSlotOf p (slotOf c) image rs m ≡ startCall 0 p (packed (S .0)) after =
+      rw (header-in-slot c, eq-eqb _ _ (slot-length c), eq-eqb _ _ eleven, S .1) in
+      rw (started, certificate-in-slot c) (refl, H .0, H .1 ∙ S .3, H .2 ∙ S .4)
 
   module _ (p : ℕ) (slot : List ℕ) where
     abbrev Home : CertifyCall → Type 0
@@ -50,7 +42,7 @@ module _ (ticket image : List ℕ) (bytes : AllBytes ticket) where
 
     -- by what is admitted: 0 is no refusal's number
     home-of : (a : Admission) → admittedOf ticket image ≡ a → Home (ofAdmission a p slot)
-    home-of (Granted h cost stack) e z = slot-comes-home h cost stack e
+    home-of (Granted c) e z = slot-comes-home c e
     home-of (Refused r) e z = absurd (omega (arith, z, admission-numbered ticket image r e))
 
     -- by whether there are 24 slot bytes

@@ -10,7 +10,7 @@ use Rattle.rules.specs.Claim.{Stops}
 use Rattle.verdict.specs.Routine.{StartCertified}
 use Rattle.monitor.specs.RegisterBytes.{packed, unpacked}
 use Rattle.monitor.specs.StepperCalls.{stepperCall, runBytesOf}
-use Rattle.monitor.specs.Slot.{costIn, stackIn}
+use Rattle.monitor.specs.Slot.{certificateIn}
 use Rattle.monitor.specs.RoutineCalls.{startBytesOf, certifyCall, certifyBytesOf, startSlotOf}
 
 -- from the register bytes rs and the memory m the routine comes home; and so does C's run on them, whatever is lent as
@@ -37,8 +37,8 @@ SlotComesHome ticket image slot =
     → let b = startSlotOf p slot image rs m in
     (b .outcome ≡ 0)
     × (H : BytesComeHome ticket image (b .registers) (b .memory))
-    × (H .start .cost ≡ costIn slot)
-    × (H .start .stack ≡ stackIn slot)
+    × (H .start .cost ≡ certificateIn slot .cost)
+    × (H .start .stack ≡ certificateIn slot .stack)
 
 -- a slot that was filled comes home
 abbrev pub FilledSlotComesHome : (place : ℕ) (ticket image slot : List ℕ) → Type 0

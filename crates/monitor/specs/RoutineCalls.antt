@@ -67,7 +67,7 @@ abbrev pub certifyCall : (outcome place : ℕ) (slot : List ℕ) → CertifyCall
 certifyCall n p bs = record { outcome = n; place = p; slot = bs }
 
 abbrev pub ofAdmission : Admission → (p : ℕ) (slot : List ℕ) → CertifyCall
-ofAdmission (Admission.Granted h cost stack) p bs = certifyCall 0 p (slotOf h cost stack)
+ofAdmission (Admission.Granted c) p bs = certifyCall 0 p (slotOf c)
 ofAdmission (Admission.Refused r) p bs = certifyCall (r .number) (r .place) bs
 
 -- 21 at 0 is checked first, of the slot; then what the verdict refuses is refused

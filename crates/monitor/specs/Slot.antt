@@ -1,21 +1,21 @@
--- The slot: what a start needs of a routine that was judged, and the certified figures, as 24 bytes, high byte first.
+-- The slot: the certificate of a routine that was judged, as 24 bytes, high byte first.
 -- Assumes nothing.
 use Prim.Native.Nat.{ℕ, _+_}
 use mathlib.Core.List.{List, _++_}
-use Rattle.registers.specs.declared.Cycles.{Cycles}
-use Rattle.registers.specs.declared.StackBytes.{StackBytes}
 use Rattle.commands.specs.declared.command.Window.{Window}
 use Rattle.commands.specs.declared.prefix.Header.{Header}
+use Rattle.verdict.specs.declared.Certificate.{Certificate}
 use Rattle.monitor.specs.BigEndian.{wordBytes, longBytes, wordIn, longIn}
 
 abbrev pub windowBytes : Window → List ℕ
 windowBytes w = wordBytes (w .start) ++ wordBytes (w .length)
 
 -- the windows of code, data and stack, the entry, the cycle limit; the certified cycles, the stack bytes
-unfoldable pub slotOf : Header → Cycles → StackBytes → List ℕ
-slotOf h cost stack =
+unfoldable pub slotOf : Certificate → List ℕ
+slotOf c =
+    let h = c .header in
     windowBytes (h .code) ++ windowBytes (h .«data») ++ windowBytes (h .stack)
-    ++ wordBytes (h .entry) ++ longBytes (h .limit .0) ++ longBytes (cost .0) ++ wordBytes (stack .0)
+    ++ wordBytes (h .entry) ++ longBytes (h .limit .0) ++ longBytes (c .cost .0) ++ wordBytes (c .stack .0)
 
 -- what slot bytes say, whatever they are
 abbrev pub windowIn : List ℕ → ℕ → Window
@@ -31,8 +31,5 @@ headerIn bs =
       limit = record { 0 = longIn bs 14 };
     }
 
-unfoldable pub costIn : List ℕ → Cycles
-costIn bs = record { 0 = longIn bs 18 }
-
-unfoldable pub stackIn : List ℕ → StackBytes
-stackIn bs = record { 0 = wordIn bs 22 }
+unfoldable pub certificateIn : List ℕ → Certificate
+certificateIn bs = record { header = headerIn bs; cost = record { 0 = longIn bs 18 }; stack = record { 0 = wordIn bs 22 } }

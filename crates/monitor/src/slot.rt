@@ -18,8 +18,8 @@ use answers::refuse;
 use commands::command::Window;
 use commands::prefix::Header;
 use registers::Cycles;
-use registers::StackBytes;
 use verdict::Admission;
+use verdict::Certificate;
 use verdict::admit;
 use verdict::start;
 
@@ -55,11 +55,14 @@ fn put_window(slot: &mut [u8], at: usize, w: Window)
     put_word(slot, at + 2, w.length);
 }
 
-fn put_slot(h: Header, cost: Cycles, stack: StackBytes, slot: &mut [u8])
+fn put_slot(c: Certificate, slot: &mut [u8])
     requires { ⌜ length (now slot) ≡ 24 ⌝ }
-    ensures { λ _. ⌜ now (slot .exit) ≡ slotOf h cost stack ⌝ }
+    ensures { λ _. ⌜ now (slot .exit) ≡ slotOf c ⌝ }
 {
+    let h = c.header;
     let limit = h.limit;
+    let cost = c.cost;
+    let stack = c.stack;
     put_window(slot, 0, h.code);
     put_window(slot, 4, h.data);
     put_window(slot, 8, h.stack);
@@ -78,8 +81,8 @@ pub fn certify_into(ticket: &[u8], image: &[u8], slot: &mut [u8]) -> RoutineRepl
         return RoutineReply::Refused(refuse(21, 0));
     }
     match admit(ticket, image) {
-        Admission::Granted(h, cost, stack) => {
-            put_slot(h, cost, stack, slot);
+        Admission::Granted(c) => {
+            put_slot(c, slot);
             RoutineReply::Done
         }
         Admission::Refused(x) => RoutineReply::Refused(x),

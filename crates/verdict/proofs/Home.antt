@@ -34,7 +34,7 @@ module _ (ticket image : List ℕ) (bytes : AllBytes ticket) where
   -- of the fields that were read and accepted
   start-comes-home : (f : Fields) → readOf ticket ≡ read f → (e : ℕ) (c : Cycles) (k : StackBytes)
       → verdictOn f image ≡ Accept e c k
-      → (d : Data) (m : List ℕ) → length m ≡ 65536 → StartComesHome ticket image (f .header) c k d m
+      → (d : Data) (m : List ℕ) → length m ≡ 65536 → StartComesHome ticket image (record { header = f .header; cost = c; stack = k }) d m
   start-comes-home f h e c k j d m size =
       let R = read-rules ticket f bytes h in
       let A = accepted f image (R .2) e c k j in
@@ -65,8 +65,7 @@ module _ (ticket image : List ℕ) (bytes : AllBytes ticket) where
 
   -- what is to be shown of an admission
   abbrev Homeward : Admission → Type 0
-  Homeward (Admission.Granted h c k) =
-      (d : Data) (m : List ℕ) → length m ≡ 65536 → StartComesHome ticket image h c k d m
+  Homeward (Admission.Granted c) = (d : Data) (m : List ℕ) → length m ≡ 65536 → StartComesHome ticket image c d m
   Homeward (Admission.Refused r) = Unit
 
   -- by the verdict on the fields that were read
@@ -96,7 +95,7 @@ module _ (ticket image : List ℕ) (bytes : AllBytes ticket) where
   verdict-by (read f) h = verdict-if f h (verdictOn f image) refl
 
 pub admitted-comes-home : (ticket image : List ℕ) → AllBytes ticket → AdmittedComesHome ticket image
-admitted-comes-home ticket image bytes h c k e = rw e at (homeward ticket image bytes)
+admitted-comes-home ticket image bytes c e = rw e at (homeward ticket image bytes)
 
 pub verdict-admitted : (ticket image : List ℕ) → AllBytes ticket
     → verdictOf ticket image ≡ verdictIn (admittedOf ticket image)
@@ -114,7 +113,7 @@ module _ (ticket image : List ℕ) (d : Data) (m : List ℕ) where
   home-by : (bytes : AllBytes ticket) → length m ≡ 65536 → (a : Admission) → Homeward ticket image bytes a
       → Home (startRoutineBy a d image m)
   home-by bytes size (Admission.Refused x) H r s = absurd (not-started x r s)
-  home-by bytes size (Admission.Granted h c k) H r s =
+  home-by bytes size (Admission.Granted c) H r s =
       let S = H d m size in
       let same : S .0 ≡ r = cc in
       rw same at (S .2)

@@ -29,7 +29,7 @@ abbrev RefusesNotZero : Verdict → Type 0
 RefusesNotZero v = (r : Refusal) → v ≡ Refuse r → 1 ≤ r .number
 
 abbrev AdmissionNotZero : Admission → Type 0
-AdmissionNotZero (Admission.Granted h c k) = Unit
+AdmissionNotZero (Admission.Granted c) = Unit
 AdmissionNotZero (Admission.Refused r) = 1 ≤ r .number
 
 abbrev NotZero : Started → Type 0
@@ -66,7 +66,7 @@ module _ (image : List ℕ) (d : Data) (m : List ℕ) where
 
   start-not-zero : (a : Admission) → AdmissionNotZero a → NotZero (startRoutineBy a d image m .answer)
   start-not-zero (Admission.Refused r) p = p
-  start-not-zero (Admission.Granted h c k) p = started-not-zero h
+  start-not-zero (Admission.Granted c) p = started-not-zero (c .header)
 
   -- nor a start's, by any header
   pub started-numbered : (h : Header) (r : Refusal) → startedOf h d image m ≡ Refused r → 1 ≤ r .number

@@ -14,7 +14,7 @@ use Rattle.verdict.specs.declared.Admission.the-variants.{Granted, Refus
 
 -- by the verdict on a ticket that was read
 abbrev pub admittedIf : Verdict → Header → Admission
-admittedIf (Accept entry cost stack) h = Granted h cost stack
+admittedIf (Accept entry cost stack) h = Granted (record { header = h; cost = cost; stack = stack })
 admittedIf (Refuse r) h = Refused r
 
 abbrev pub admittedBy : Outcome → List ℕ → Admission
@@ -26,5 +26,5 @@ admittedOf ticket image = admittedBy (readOf ticket) image
 
 -- the verdict that an admission stands for
 abbrev pub verdictIn : Admission → Verdict
-verdictIn (Granted h cost stack) = Accept (h .entry) cost stack
+verdictIn (Granted c) = Accept (c .header .entry) (c .cost) (c .stack)
 verdictIn (Refused r) = Refuse r

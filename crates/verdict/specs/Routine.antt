@@ -10,12 +10,12 @@ use Rattle.registers.specs.declared.Cycles.{Cycles}
 use Rattle.registers.specs.declared.Data.{Data}
 use Rattle.registers.specs.declared.Registers.{Registers}
 use Rattle.registers.specs.declared.StackBytes.{StackBytes}
-use Rattle.commands.specs.declared.prefix.Header.{Header}
 use Rattle.ticket.specs.Read.{refusal}
 use Rattle.rules.specs.Rules.{Certified}
 use Rattle.rules.specs.Claim.{ComesHome}
 use Rattle.verdict.specs.Start.{startedOf, loadedOf}
 use Rattle.verdict.specs.Admission.{admittedOf}
+use Rattle.verdict.specs.declared.Certificate.{Certificate}
 use Rattle.verdict.specs.declared.Admission.{Admission}
 use Rattle.verdict.specs.declared.Admission.the-variants as Admission
 use Rattle.verdict.specs.declared.Started.{Started}
@@ -31,7 +31,7 @@ afterStart a m = record { answer = a; memory = m }
 
 abbrev pub startRoutineBy : Admission → Data → List ℕ → List ℕ → AfterStart
 startRoutineBy (Admission.Refused r) d image m = afterStart (Refused r) m
-startRoutineBy (Admission.Granted h cost stack) d image m = afterStart (startedOf h d image m) (loadedOf h image m)
+startRoutineBy (Admission.Granted c) d image m = afterStart (startedOf (c .header) d image m) (loadedOf (c .header) image m)
 
 -- 21 is checked first; then what the verdict refuses is refused, and alters nothing
 unfoldable pub startRoutineOf : List ℕ → List ℕ → Data → List ℕ → AfterStart
@@ -50,17 +50,17 @@ abbrev pub StartedComesHome : List ℕ → List ℕ → Data → List ℕ → Ty
 StartedComesHome ticket image d m =
     (r : Registers) → startRoutineOf ticket image d m .answer ≡ At r → StartCertified ticket image r (startRoutineOf ticket image d m .memory)
 
--- a start by the header h succeeds and comes home, within these figures
-abbrev pub StartComesHome : List ℕ → List ℕ → Header → Cycles → StackBytes → Data → List ℕ → Type 0
-StartComesHome ticket image h cost stack d m =
+-- a start by the certificate's header succeeds and comes home, within its figures
+abbrev pub StartComesHome : List ℕ → List ℕ → Certificate → Data → List ℕ → Type 0
+StartComesHome ticket image c d m =
     (r : Registers)
-    × (startedOf h d image m ≡ At r)
-    × (C : StartCertified ticket image r (loadedOf h image m))
-    × (C .cost ≡ cost)
-    × (C .stack ≡ stack)
+    × (startedOf (c .header) d image m ≡ At r)
+    × (C : StartCertified ticket image r (loadedOf (c .header) image m))
+    × (C .cost ≡ c .cost)
+    × (C .stack ≡ c .stack)
 
 -- what is admitted can be started again and again without being judged: every start by its header comes home
 abbrev pub AdmittedComesHome : List ℕ → List ℕ → Type 0
 AdmittedComesHome ticket image =
-    (h : Header) (cost : Cycles) (stack : StackBytes) → admittedOf ticket image ≡ Admission.Granted h cost stack
-    → (d : Data) (m : List ℕ) → length m ≡ 65536 → StartComesHome ticket image h cost stack d m
+    (c : Certificate) → admittedOf ticket image ≡ Admission.Granted c
+    → (d : Data) (m : List ℕ) → length m ≡ 65536 → StartComesHome ticket image c d m

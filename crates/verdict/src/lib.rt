@@ -23,9 +23,16 @@ use ticket::read;
 
 mod load; // the image and home's bytes into memory
 
-// A routine judged: where it is accepted, its ticket's header, which a start goes by, and the certified figures.
+// Of an accepted routine: its ticket's header, which a start goes by, and the certified figures.
+pub struct Certificate {
+    pub header: Header,
+    pub cost: Cycles,
+    pub stack: StackBytes,
+}
+
+// A routine judged.
 pub enum Admission {
-    Granted(Header, Cycles, StackBytes),
+    Granted(Certificate),
     Refused(Refusal),
 }
 
@@ -41,10 +48,14 @@ pub fn admit(ticket: &[u8], image: &[u8]) -> Admission
         Answer::Refused(x) => Admission::Refused(x),
         Answer::Read => {
             let t = reading.ticket;
-            let h = t.header;
+            let header = t.header;
             match verdict_on(t, image) {
                 Verdict::Refuse(x) => Admission::Refused(x),
-                Verdict::Accept(_, cost, stack) => Admission::Granted(h, cost, stack),
+                Verdict::Accept(_, cost, stack) => Admission::Granted(Certificate {
+                    header,
+                    cost,
+                    stack,
+                }),
             }
         }
     }
@@ -58,7 +69,11 @@ pub fn verdict(ticket: &[u8], image: &[u8]) -> Verdict
 {
     match admit(ticket, image) {
         Admission::Refused(x) => Verdict::Refuse(x),
-        Admission::Granted(h, cost, stack) => Verdict::Accept(h.entry, cost, stack),
+        Admission::Granted(c) => {
+            let cost = c.cost;
+            let stack = c.stack;
+            Verdict::Accept(c.header.entry, cost, stack)
+        }
     }
 }
 
@@ -96,6 +111,6 @@ pub fn start_routine(ticket: &[u8], image: &[u8], d: Data, memory: &mut [u8]) ->
     }
     match admit(ticket, image) {
         Admission::Refused(x) => Started::Refused(x),
-        Admission::Granted(h, _, _) => start(h, image, d, memory),
+        Admission::Granted(c) => start(c.header, image, d, memory),
     }
 }

@@ -36,7 +36,7 @@ returns-3 c =
     let s = c .before .before in
     let g = s .before .before .before in
     let a = g .before .before in
-    (rw (s .start .ensures .0, s .start .ensures .1) (rw (g .h .given .1) at (judged a)), home (a .before .before))
+    (rw (s .start .ensures .0, s .start .ensures .1) (rw (g .c .given .1) at (judged a)), home (a .before .before))
 
 pub start-routine-spec : {M : Type 1} → statement M
 start-routine-spec =

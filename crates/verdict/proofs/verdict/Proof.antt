@@ -26,7 +26,7 @@ returns : tie.Need-returns
 returns c = rw (c .before .x .given .1) at (answered (c .before .before .before))
 
 returns-2 : tie.Need-returns-2
-returns-2 c = rw (c .before .h .given .1) at (answered (c .before .before .before))
+returns-2 c = let g = c .before .before .before in rw (g .c .given .1) at (answered (g .before .before))
 
 pub verdict-spec : {M : Type 1} → statement M
 verdict-spec = tie.close (tie.spec (search needs) (search needs) (search needs) returns returns-2)

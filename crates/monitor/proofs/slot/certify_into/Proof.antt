@@ -23,7 +23,7 @@ returns-2 : tie.Need-returns-2
 returns-2 c p =
     let s = c .before .before in
     let g = s .before .before .before in
-    rw (s .put-slot .ensures) (rw (g .h .given .1) at (judged (g .before .before) p))
+    rw (s .put-slot .ensures) (rw (g .c .given .1) at (judged (g .before .before) p))
 
 returns-3 : tie.Need-returns-3
 returns-3 c p = rw (c .before .x .given .1) at (judged (c .before .before .before) p)

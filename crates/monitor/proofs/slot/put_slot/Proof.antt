@@ -5,29 +5,27 @@ use mathlib.Core.Path.{_≡_}
 use mathlib.Core.List.{List}
 use Prim.Native.Nat.{ℕ}
 use lib.ListN.{length}
-use Rattle.registers.specs.declared.Cycles.{Cycles}
-use Rattle.registers.specs.declared.StackBytes.{StackBytes}
-use Rattle.commands.specs.declared.prefix.Header.{Header}
+use Rattle.verdict.specs.declared.Certificate.{Certificate}
 use Rattle.monitor.proofs.Elements.{all-elements}
 use Rattle.monitor.specs.Slot.{slotOf}
 use Rattle.monitor.proofs.slot.put_slot.Statement.{statement}
 use Rattle.monitor.proofs.slot.put_slot.Tie as tie
 use Rattle.monitor.specs.inner.Put.{putLong, putWindow, putWord}
 
-stored : (bs : List ℕ) → length bs ≡ 24 → (h : Header) (cost : Cycles) (stack : StackBytes)
+stored : (bs : List ℕ) → length bs ≡ 24 → (c : Certificate)
     → putWord
     (putLong
     (putLong
-    (putWord (putWindow (putWindow (putWindow bs 0 (h .code)) 4 (h .«data»)) 8 (h .stack)) 12 (h .entry))
+    (putWord (putWindow (putWindow (putWindow bs 0 (c .header .code)) 4 (c .header .«data»)) 8 (c .header .stack)) 12 (c .header .entry))
     14
-    (h .limit .0))
+    (c .header .limit .0))
     18
-    (cost .0))
+    (c .cost .0))
     22
-    (stack .0)
-    ≡ slotOf h cost stack
+    (c .stack .0)
+    ≡ slotOf c
 unfolding slotOf
-stored bs e h cost stack = rw (all-elements bs 24 e)
+stored bs e c = rw (all-elements bs 24 e)
 
 returns : tie.Need-returns
 returns c =
@@ -48,7 +46,7 @@ returns c =
       globals .put-window2 .ensures .0,
       code .put-window .ensures .0,
     )
-    (stored (start .args .slot .now) (start .pre) (start .args .h) (start .args .cost) (start .args .stack))
+    (stored (start .args .slot .now) (start .pre) (start .args .c))
 
 pub put-slot-spec : {M : Type 1} → statement M
 put-slot-spec =
