@@ -36,7 +36,7 @@ returns c =
     let stack = entry .before .before .before .before in
     let globals = stack .before .before .before .before in
     let code = globals .before .before .before .before in
-    let start = code .before .before .before .before in
+    let start = code .before .before .before .before .before .before .before in
     rw (
       last .put-word2 .ensures .0,
       cost .put-long2 .ensures .0,
