@@ -4,7 +4,7 @@ use mathlib.Core.Path.{_≡_, refl, sym, ap, _∙_}
 use Rattle.stepper.specs.Flow.{Flow, calls, returns, plain}
 use Rattle.measure.specs.declared.flow.Flow.{Flow as Said}
 use Rattle.measure.specs.declared.flow.Flow.the-variants as Said
-use Rattle.measure.specs.Look.{flowSaid}
+use Rattle.measure.specs.inner.Said.{flowSaid}
 
 abbrev flowFrom : Flow → Said
 flowFrom calls = Said.Calls

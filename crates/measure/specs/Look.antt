@@ -10,14 +10,7 @@ use Rattle.stepper.specs.Answer.{Answer, done, refused}
 use Rattle.stepper.specs.Step.{stepOf}
 use Rattle.commands.specs.declared.command.Claim.{Claim}
 use Rattle.stepper.specs.Flow.{Flow, calls, returns, plain, flowOf}
-use Rattle.measure.specs.declared.flow.Flow.{Flow as Said}
-use Rattle.measure.specs.declared.flow.Flow.the-variants as Said
 use Rattle.measure.specs.declared.look.Look.{Look}
-
-abbrev pub flowSaid : Said → Flow
-flowSaid Said.Calls = calls
-flowSaid Said.Returns = returns
-flowSaid Said.Plain = plain
 
 abbrev pub beginOf : Registers → ℕ → Look
 beginOf r b = record { regs = r; lowest = r .sp; pending = 0; left = b; over = false }

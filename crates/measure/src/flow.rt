@@ -5,7 +5,7 @@ ghost use Prim.Native.Nat.{_<_};
 ghost use Rattle.opcodes.specs.Tables.{costAt};
 ghost use Rattle.opcodes.specs.Decode.{instructionOf};
 ghost use Rattle.stepper.specs.Flow.{flowBy, flowIn, flowOf};
-ghost use Rattle.measure.specs.Look.{flowSaid};
+ghost use Rattle.measure.specs.inner.Said.{flowSaid};
 use memory::byte_at;
 use opcodes::decoder::decode;
 use opcodes::instruction::Decoded;

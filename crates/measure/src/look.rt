@@ -2,7 +2,8 @@
 ghost use mathlib.Core.Path.{_≡_};
 ghost use Prim.Native.Nat.{_+_, _≤_, _<_};
 ghost use lib.ListN.{length};
-ghost use Rattle.measure.specs.Look.{flowSaid, beginOf, overOf, lowerOf, pendingAfter, ends, lookAfter, lookStep, lookStepOf, lookOf, measuredOf};
+ghost use Rattle.measure.specs.Look.{beginOf, overOf, lowerOf, pendingAfter, ends, lookAfter, lookStep, lookStepOf, lookOf, measuredOf};
+ghost use Rattle.measure.specs.inner.Said.{flowSaid};
 ghost use Rattle.stepper.specs.Answer.{done};
 use crate::flow::Flow;
 use crate::flow::flow_at;

@@ -1,2 +1,3 @@
+-- Definitions that only serve the proof that the code meets its contracts.
 pub mod Put
 pub mod Replies

@@ -1,4 +1,4 @@
--- The addresses of marks, and of the successors that a shape has. An inner matter of the code.
+-- The addresses of marks, and of the successors that a shape has.
 -- Assumes nothing.
 use Prim.Native.Nat.{ℕ}
 use mathlib.Core.Bool.{Bool, true, false}

@@ -1,4 +1,4 @@
--- Where an address stands in a list. An inner matter of the code.
+-- Where an address stands in a list.
 -- Assumes nothing.
 use Prim.Native.Nat.{ℕ, zero, suc, _<_}
 use mathlib.Core.Bool.{cond}

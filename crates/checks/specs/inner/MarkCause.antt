@@ -1,4 +1,4 @@
--- Causes 10 to 17 at a mark as the code computes them: of the rules' checks, the first that fails, by the claims at the successors. An inner matter of the code.
+-- Causes 10 to 17 at a mark as the code computes them: of the rules' checks, the first that fails, by the claims at the successors.
 -- Assumes nothing.
 use Prim.Native.Nat.{ℕ}
 use mathlib.Core.Bool.{Bool, true, cond, _&&_}

@@ -1,4 +1,4 @@
--- What the code's shape says, in the words of the rules. An inner matter of the code.
+-- What the code's shape says, in the words of the rules.
 -- Assumes nothing.
 use Prim.Native.Nat.{ℕ}
 use mathlib.Core.List.{List, [], _∷_}

@@ -1,4 +1,4 @@
--- Causes 18 to 20 and acceptance as the code computes them, by the claim at the entry. An inner matter of the code.
+-- Causes 18 to 20 and acceptance as the code computes them, by the claim at the entry.
 -- Assumes nothing.
 use Prim.Native.Nat.{_+_}
 use mathlib.Core.Bool.{cond}

@@ -1,4 +1,4 @@
--- Bytes in which a number or a window was stored at an index, as the code stores them. An inner matter of the code.
+-- Bytes in which a number or a window was stored at an index, as the code stores them.
 -- Assumes nothing.
 use Prim.Native.Nat.{ℕ, _+_, _/_, _%_}
 use mathlib.Core.List.{List}

@@ -1,5 +1,4 @@
--- What the code's replies come to: the outcome's number, the numbers answered beside it, the place of a refusal. An inner
--- matter of the code.
+-- What the code's replies come to: the outcome's number, the numbers answered beside it, the place of a refusal.
 -- Assumes nothing.
 use Prim.Native.Nat.{ℕ}
 use mathlib.Core.List.{List}
