@@ -3,12 +3,12 @@
 use crate::documented::put;
 use crate::print::ran;
 use crate::print::stepped;
+use answers::Refusal;
 use check::same;
 use output::decimal;
 use output::text;
 use registers::Registers;
 use std::num::wrapping_add_u32;
-use stepper::answer::Refusal;
 use stepper::answer::Stepped;
 use stepper::run;
 use stepper::step;
@@ -63,10 +63,10 @@ fn outcome(first: u8, second: u8) -> u8 {
 }
 
 fn refused(x: Refusal, unchanged: bool) -> u8 {
-    match x {
-        Refusal::BadMemory => 1,
-        Refusal::NoInstruction(at) => { if unchanged & (at == 0x8000) { 22 } else { 1 } }
-        Refusal::Waits(at) => { if unchanged & (at == 0x8000) { 23 } else { 1 } }
+    if unchanged & (x.place == 0x8000) {
+        x.number
+    } else {
+        1
     }
 }
 

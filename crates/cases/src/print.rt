@@ -1,4 +1,5 @@
 // Answers as text, one to a line.
+use answers::Refusal;
 use output::decimal;
 use output::registers;
 use output::text;
@@ -6,7 +7,6 @@ use output::word;
 use registers::Cycles;
 use registers::Registers;
 use stepper::answer::Ran;
-use stepper::answer::Refusal;
 use stepper::answer::Stepped;
 
 // The registers and the cycles.
@@ -19,11 +19,9 @@ fn reached(r: Registers, k: Cycles) {
 
 // Document 01's number and place.
 fn refusal(x: Refusal) {
-    match x {
-        Refusal::BadMemory => text(b"refused 21 at 0"),
-        Refusal::NoInstruction(pc) => word(b"refused 22 at ", pc),
-        Refusal::Waits(pc) => word(b"refused 23 at ", pc),
-    }
+    text(b"refused ");
+    decimal(x.number as u64);
+    word(b" at ", (x.place % 65536) as u16);
 }
 
 pub fn stepped(s: Stepped) {

@@ -1,27 +1,22 @@
 // A step and a run on register bytes, and the numbers that a call answers.
 ghost use mathlib.Core.Path.{_≡_};
 ghost use mathlib.Core.List.{List};
-ghost use Prim.Native.Nat.{ℕ};
+ghost use Prim.Native.Nat.{ℕ, _<_};
 ghost use lib.ListN.{length};
-ghost use Rattle.stepper.specs.Answer.{numberOf, placeOf};
 ghost use Rattle.monitor.specs.RegisterBytes.{packed};
 ghost use Rattle.monitor.specs.StepperCalls.{stepperCall, stepBytesOf, runBytesOf};
 ghost use Rattle.monitor.specs.inner.Replies.{stepperReplied};
 use crate::register_bytes::pack;
 use crate::register_bytes::unpack;
+use answers::Refusal;
 use registers::Registers;
 use stepper::answer::Ran;
-use stepper::answer::Refusal;
 use stepper::answer::Stepped;
 
 // A reset or a step is done, or a run is home.
 pub const DONE: u32 = 0;
 
 pub const BAD_LENGTH: u32 = 21;
-
-const NO_INSTRUCTION: u32 = 22;
-
-const WAITS: u32 = 23;
 
 // Past the numbers of document 01's refusals, which go to 24.
 const SPENT: u32 = 100;
@@ -33,24 +28,12 @@ pub enum StepperReply {
     Refused(u32, u16), // nothing was done: number and place
 }
 
-fn number_of(x: Refusal) -> u32
-    ensures { λ n. ⌜ n ≡ numberOf x ⌝ }
+// Of a refusal of a step or of a run: its place is PC or 0.
+fn address_of(x: Refusal) -> u16
+    requires { ⌜ x .place < 65536 ⌝ }
+    ensures { λ p. ⌜ p ≡ x .place ⌝ }
 {
-    match x {
-        Refusal::BadMemory => BAD_LENGTH,
-        Refusal::NoInstruction(_) => NO_INSTRUCTION,
-        Refusal::Waits(_) => WAITS,
-    }
-}
-
-fn place_of(x: Refusal) -> u16
-    ensures { λ p. ⌜ p ≡ placeOf x ⌝ }
-{
-    match x {
-        Refusal::BadMemory => 0,
-        Refusal::NoInstruction(pc) => pc,
-        Refusal::Waits(pc) => pc,
-    }
+    x.place as u16
 }
 
 // The registers reached are stored.
@@ -76,7 +59,7 @@ pub fn step_on(regs: &mut [u8], mem: &mut [u8]) -> StepperReply
     let r = unpack(regs);
     match stepper::step(r, mem) {
         Stepped::Done(q, k) => reached(q, regs, StepperReply::Done(DONE, k.0)),
-        Stepped::Refused(x) => StepperReply::Refused(number_of(x), place_of(x)),
+        Stepped::Refused(x) => StepperReply::Refused(x.number as u32, address_of(x)),
     }
 }
 
@@ -98,7 +81,7 @@ pub fn run_on(regs: &mut [u8], mem: &mut [u8], budget: u32) -> StepperReply
         Ran::Refused(q, k, x) => reached(
             q,
             regs,
-            StepperReply::Stopped(number_of(x), k.0, place_of(x)),
+            StepperReply::Stopped(x.number as u32, k.0, address_of(x)),
         ),
     }
 }

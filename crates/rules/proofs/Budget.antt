@@ -1,7 +1,7 @@
 -- The run goes along a trace as far as the budget covers it.
 -- Assumes nothing.
 use Prim.Native.Nat.{ℕ, suc, _+_, _≤_, _<_}
-use mathlib.Core.Path.{_≡_, refl, ap, _∙_}
+use mathlib.Core.Path.{_≡_, refl, _∙_}
 use mathlib.Core.Logic.{⊎-elim}
 use mathlib.Core.List.{List, [], _∷_, _++_, append-assoc}
 use native.Mathlib.Omega.{arith}
@@ -11,11 +11,10 @@ use borrow.Author.Tests.{eq-eqb}
 use Rattle.registers.specs.declared.Registers.{Registers}
 use Rattle.opcodes.proofs.Order.{le-or-lt}
 use Rattle.memory.specs.Memory.{Store, applied}
-use Rattle.stepper.specs.Step.{did, didOf, After, stepOf}
+use Rattle.stepper.specs.Step.{did, didOf}
 use Rattle.stepper.specs.Run.{AfterRun, runFrom, runOf}
-use Rattle.stepper.specs.Advance.{stepped}
-use Rattle.stepper.proofs.Turn as Turn
-use Rattle.stepper.proofs.Enough.{enough}
+use Rattle.stepper.proofs.RunTurn.{at-home, covered, uncovered}
+use Rattle.stepper.proofs.EnoughTurns.{enough}
 use Rattle.stepper.specs.Flow.{flowOf}
 use Rattle.stepper.specs.Trace.{Event, total, Along, stay, then}
 use Rattle.rules.specs.Claim.{ranHome, ranSpent, Stops}
@@ -29,18 +28,16 @@ starts : (r : Registers) (m : List ℕ) (b : ℕ) → length m ≡ 65536 → run
 unfolding runOf
 starts r m b whole = simp (eq-eqb _ _ whole)
 
-module _ (b s : ℕ) (r : Registers) (m : List ℕ) {q : Registers} {ws : List Store} {k : ℕ} (away : r .pc ≡ 0 → ⊥) (done : didOf r m ≡ did q ws k) where
-  steps : stepOf r m ≡ stepped q k (applied ws m)
-  unfolding stepOf
-  steps = simp done
-
+module _ (b s : ℕ) (r : Registers) (m : List ℕ) {q : Registers} {ws : List Store} {k : ℕ}
+    (away : r .pc ≡ 0 → ⊥) (does : didOf r m ≡ did q ws k) where
   goes-on : s + k ≤ b → runOn b s r m ≡ runOn b (s + k) q (applied ws m)
   goes-on l =
-      let two = busy r q m ws k done in
-      Turn.away b b s r m away ∙ Turn.steps b b s r m steps l ∙ enough b (suc b) b (s + k) q (applied ws m) l (omega (arith, two)) (omega arith)
+      let two = busy r q m ws k does in
+      covered b b s r m away does l
+      ∙ enough b (suc b) b (s + k) q (applied ws m) l (omega (arith, two)) (omega arith)
 
   stands : b < s + k → runOn b s r m ≡ ranSpent r m s
-  stands l = Turn.away b b s r m away ∙ Turn.over b b s r m (ap (λ (x : After). x .answer) steps) l
+  stands l = uncovered b b s r m away does l
 
 -- a trace that is covered is gone along
 follows : {r e : Registers} {m n : List ℕ} {evs : List Event} (b s : ℕ) → Along r m evs e n → s + total evs ≤ b → runOn b s r m ≡ runOn b (s + total evs) e n
@@ -52,7 +49,7 @@ from-start {r} {m} {evs} b whole a l = starts r m b whole ∙ follows b 0 a (ome
 
 pub run-home : {r e : Registers} {m n : List ℕ} {evs : List Event} → length m ≡ 65536 → Along r m evs e n → e .pc ≡ 0 → (b : ℕ) → total evs ≤ b
     → runOf r m b ≡ ranHome e n (total evs)
-run-home {e} {n} {evs} whole a h b l = from-start b whole a l ∙ Turn.at-home b b (total evs) e n h
+run-home {e} {n} {evs} whole a h b l = from-start b whole a l ∙ at-home b b (total evs) e n h
 
 -- two traces, one after the other
 joined : {r q e : Registers} {m n o : List ℕ} {evs evs′ : List Event} → Along r m evs q n → Along q n evs′ e o → Along r m (evs ++ evs′) e o

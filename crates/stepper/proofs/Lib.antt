@@ -7,6 +7,7 @@ pub mod LoopInvariant
 pub mod OneTurn
 pub mod SameRest
 pub mod UntilHome
+pub mod RunTurn
 pub mod EnoughTurns
 pub mod Sum
 pub mod Apart

@@ -1,5 +1,6 @@
 // The places of the opcode maps: which of them hold an instruction, and how many vectors each has.
 use crate::loaded::background;
+use answers::Refusal;
 use check::same;
 use memory::put_byte;
 use output::counted;
@@ -7,7 +8,6 @@ use output::decimal;
 use output::text;
 use registers::Registers;
 use std::num::wrapping_add_u32;
-use stepper::answer::Refusal;
 use stepper::answer::Stepped;
 use stepper::step;
 
@@ -20,22 +20,13 @@ enum Stands {
 }
 
 fn refused(x: Refusal, kept: bool) -> Stands {
-    match x {
-        Refusal::BadMemory => Stands::Wrong,
-        Refusal::NoInstruction(at) => {
-            if kept & (at == 0x8000) {
-                Stands::Empty
-            } else {
-                Stands::Wrong
-            }
-        }
-        Refusal::Waits(at) => {
-            if kept & (at == 0x8000) {
-                Stands::Waits
-            } else {
-                Stands::Wrong
-            }
-        }
+    if !kept | (x.place != 0x8000) {
+        return Stands::Wrong;
+    }
+    match x.number {
+        22 => Stands::Empty,
+        23 => Stands::Waits,
+        _ => Stands::Wrong,
     }
 }
 

@@ -13,7 +13,6 @@ use output::text;
 use output::word;
 use registers::Cycles;
 use registers::Registers;
-use stepper::answer::Refusal;
 use stepper::answer::Stepped;
 use stepper::step;
 
@@ -47,11 +46,11 @@ fn answered(a: Stepped) {
     text(b"  answered: ");
     match a {
         Stepped::Done(r, k) => outcome(r, k.0),
-        Stepped::Refused(x) => match x {
-            Refusal::BadMemory => text(b"refused 21\n"),
-            Refusal::NoInstruction(_) => text(b"refused 22\n"),
-            Refusal::Waits(_) => text(b"refused 23\n"),
-        },
+        Stepped::Refused(x) => {
+            text(b"refused ");
+            decimal(x.number as u64);
+            text(b"\n");
+        }
     }
 }
 
