@@ -6,6 +6,8 @@ ghost use Rattle.opcodes.specs.Tables.{costAt};
 ghost use Rattle.opcodes.specs.Decode.{instructionOf};
 ghost use Rattle.stepper.specs.Flow.{flowBy, flowIn, flowOf};
 ghost use Rattle.measure.specs.inner.Said.{flowSaid};
+use instructions::form::Form;
+use instructions::form::form_of;
 use memory::byte_at;
 use opcodes::decoder::decode;
 use opcodes::instruction::Decoded;

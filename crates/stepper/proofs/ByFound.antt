@@ -41,7 +41,8 @@ unfit r m n = simp (ne-eqb _ _ n)
 abbrev pub foundAt : Registers → List ℕ → Found
 foundAt r m = foundOf (byteAt m (r .pc)) (byteAt m (wrappingAdd (r .pc) 1))
 
-place : (r : Registers) (m : List ℕ) → r .pc < 65536 → placeIn (fetched m (r .pc)) ≡ opcodePlace (byteAt m (r .pc)) (byteAt m (wrappingAdd (r .pc) 1))
+place : (r : Registers) (m : List ℕ) → r .pc < 65536 → placeIn (fetched m (r .pc))
+    ≡ opcodePlace (byteAt m (r .pc)) (byteAt m (wrappingAdd (r .pc) 1))
 place r m low = ap (λ (a : ℕ). opcodePlace (byteAt m a) (byteAt m (wrappingAdd (r .pc) 1))) (plus-zero (r .pc) low)
 
 pub nowhere : (r : Registers) (m : List ℕ) → length m ≡ 65536 → r .pc < 65536 → foundAt r m ≡ Found.Nothing
@@ -101,7 +102,8 @@ module _ {r : Registers} {m : List ℕ} {p s e : ℕ} (h : Here r m p s e) where
     -- k is a number of the mode, and the code executes the two from these registers v
     pub executes : b ≡ false → (k : ℕ) → modeOf k ≡ modeAt p → {from next : ℕ} {v q : Registers} {m′ : List ℕ}
         → from ≡ wrappingAdd (r .pc) s → next ≡ wrappingAdd (r .pc) (e / 256) → v ≡ withPc r next
-        → Executed (effectOf (actionOf n) (operandFrom (modeOf k) from m) v m) q m m′ → stepOf r m ≡ afterDone q (e % 256) m′
+        → Executed (effectOf (actionOf n) (operandFrom (modeOf k) from m) v m) q m m′ →
+        stepOf r m ≡ afterDone q (e % 256) m′
     unfolding effect
     executes t k mode {from} {next} {v} {q} {m′} ef en ev x =
         let y : Executed effect q m m′ = rw (action, mode, ef, ev, en) at x in

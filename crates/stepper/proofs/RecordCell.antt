@@ -1,4 +1,5 @@
--- What the walks know of registers in memory: their machine value and its type, what they own, and that the cell of a local that holds them is what a borrow of it holds.
+-- What the walks know of registers in memory: their machine value and its type, what they own, and that the cell of a
+-- local that holds them is what a borrow of it holds.
 -- Assumes `Given`, the rules of the logic that each walk is handed.
 use mathlib.Core.List.{[], _∷_, List}
 use Prim.Native.Nat.{ℕ}
@@ -39,25 +40,33 @@ module _ {M : Type 1} (𝓤 : URA M) (H : Heap 𝓤) (A : Atoms 𝓤) (W : Given
   typed-answer a w is = EL.lawful S.the-type S′.the-laws 𝓤 H A W tt .typed a _ is .0
 
 -- registers own only that they fit: it is had for nothing, and where they lie in memory it is read off and let go
-module _ {M : Type 1} {𝓤 : URA M} {H : Heap 𝓤} {A : Atoms 𝓤} {K : Type 0} {W : Given 𝓤 H A} {Γ : List (Item 𝓤)} {G : Goal 𝓤 H} where
+module _ {M : Type 1} {𝓤 : URA M} {H : Heap 𝓤} {A : Atoms 𝓤} {K : Type 0} {W : Given 𝓤 H A} {Γ : List (Item 𝓤)}
+    {G : Goal 𝓤 H} where
   pub has : K → (r : Registers) → Fit r → Step K W (‵ (R.the-row .own r (mach r ∷ [])) ∷ Γ) G Γ G
   has t r is = owned t R.the-row (Is R.the-row) (LL.makes R.the-type R′.the-plain 𝓤 H A) r _ is
 
-  pub reads : K → (r : Registers) (vs : List Val) (b o : ℕ) → (Fit r → Seq K W (‵ (cellAt fullShare (R.the-row .mir) (mach r ∷ []) b o) ∷ Γ) G)
+  pub reads : K → (r : Registers) (vs : List Val) (b o : ℕ) →
+      (Fit r → Seq K W (‵ (cellAt fullShare (R.the-row .mir) (mach r ∷ []) b o) ∷ Γ) G)
       → Seq K W (‵ (cellAt fullShare (R.the-row .mir) vs b o) ∷ ‵ (R.the-row .own r vs) ∷ Γ) G
   reads t r vs b o k =
-      spelt t R.the-row (Is R.the-row) (shows 𝓤 H A R.the-row) (LL.vals R.the-type R′.the-laws) (LL.tells R.the-type R′.the-laws) fullShare r vs b o $ move t (1 ∷ []) $
+      spelt t R.the-row (Is R.the-row) (shows 𝓤 H A R.the-row) (LL.vals R.the-type R′.the-laws)
+      (LL.tells R.the-type R′.the-laws) fullShare r vs b o $ move t (1 ∷ []) $
       facts t R.the-row (Is R.the-row) (shows 𝓤 H A R.the-row) r (mach r ∷ []) k
 
 module _ {M : Type 1} (𝓤 : URA M) (H : Heap 𝓤) (A : Atoms 𝓤) (W : Given 𝓤 H A) (r : Registers) (l : ℕ) where
   pub to-lend : Fit r → ent 𝓤 (H .at fullShare R′.mir l 0 (mach r)) (sem 𝓤 H A (partAt R.the-row fullShare r l 0))
   unfolding partOf
   to-lend is =
-      qed W (‵ (fat fullShare R′.mir l 0 (mach r)) ∷ []) ∵ use1 W (‵ (cellAt fullShare (R.the-row .mir) (mach r ∷ []) l 0)) (W .laws .at-raw fullShare R′.mir l 0 (mach r)) $
-      has ! r is $ move ! (1 ∷ 0 ∷ []) $ fjoin ! $ fpack ! (List Val) (λ vs. fsep (cellAt fullShare (R.the-row .mir) vs l 0) (R.the-row .own r vs)) (mach r ∷ []) $ done !
+      qed W (‵ (fat fullShare R′.mir l 0 (mach r)) ∷ []) ∵ use1 W
+      (‵ (cellAt fullShare (R.the-row .mir) (mach r ∷ []) l 0)) (W .laws .at-raw fullShare R′.mir l 0 (mach r)) $
+      has ! r is $ move ! (1 ∷ 0 ∷ []) $ fjoin ! $ fpack ! (List Val)
+      (λ vs. fsep (cellAt fullShare (R.the-row .mir) vs l 0) (R.the-row .own r vs)) (mach r ∷ []) $ done !
 
-  pub from-loan : ent 𝓤 (sem 𝓤 H A (partAt R.the-row fullShare r l 0)) (guard 𝓤 (Fit r) (H .at fullShare R′.mir l 0 (mach r)))
+  pub from-loan : ent 𝓤 (sem 𝓤 H A (partAt R.the-row fullShare r l 0))
+      (guard 𝓤 (Fit r) (H .at fullShare R′.mir l 0 (mach r)))
   unfolding partOf
   from-loan =
-      qed W (‵ (partAt R.the-row fullShare r l 0) ∷ []) {P = guard 𝓤 (Fit r) (H .at fullShare R′.mir l 0 (mach r))} (fpick ! (λ vs. fsplit ! $ reads ! r vs l 0 (λ is.
-      use1 W (‵ (fat fullShare R′.mir l 0 (mach r))) (W .laws .raw-at fullShare R′.mir l 0 (mach r)) $ check ! is $ done !)))
+      qed W (‵ (partAt R.the-row fullShare r l 0) ∷ []) {P = guard 𝓤 (Fit r) (H .at fullShare R′.mir l 0 (mach r))}
+      (fpick ! (λ vs. fsplit ! $ reads ! r vs l 0 (λ is.
+      use1 W (‵ (fat fullShare R′.mir l 0 (mach r))) (W .laws .raw-at fullShare R′.mir l 0 (mach r)) $ check ! is $ done
+      !)))

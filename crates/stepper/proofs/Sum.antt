@@ -14,8 +14,8 @@ use Rattle.memory.specs.Memory.{Store, applied}
 use Rattle.stepper.specs.Answer.{registersReached, cyclesSpent}
 use Rattle.stepper.specs.Step.{Did, did, stopped, didOf, after, stepOf}
 use Rattle.stepper.specs.Run.{AfterRun, Rest, ifCovered, ifDone, turn, runFrom, runIf, runOf}
-use Rattle.stepper.specs.Flow.{flowOf}
 use Rattle.stepper.specs.Trace.{Event, total, Along, stay, then}
+use Rattle.stepper.specs.Flow.{flowOf}
 
 -- from r and m a trace leads to what a run answers, and s and its cycles together are the cycles that the run answers
 abbrev SumsFrom : Registers → List ℕ → ℕ → AfterRun → Type 0

@@ -1,15 +1,19 @@
--- Whether an instruction calls, returns or does neither: what the return addresses in use go by (document 01, "The way home").
+-- Whether an instruction calls, returns or does neither: what the return addresses in use go by (document 01, "The way
+-- home").
 -- Assumes nothing.
 use Prim.Native.Nat.{ℕ}
 use mathlib.Core.List.{List}
 use Rattle.registers.specs.Word.{wrappingAdd}
 use Rattle.opcodes.specs.Decode.{placeIn, decodeOf}
-use Rattle.instructions.specs.Entry.{formOf}
 use Rattle.opcodes.specs.Tables.{lengthAt}
 use Rattle.opcodes.specs.declared.instruction.Decoded.{Decoded}
 use Rattle.opcodes.specs.declared.instruction.Decoded.the-variants.{Instruction, Nothing}
+use Rattle.instructions.specs.Entry.{formOf}
 use Rattle.instructions.specs.declared.form.Form.{Form}
-use Rattle.instructions.specs.declared.form.Form.the-variants.{Computes, StoresByte, StoresWord, PushesByte, PushesWord, PullsByte, PullsWord, Reserves, Releases, Branches, Jumps, Calls, Returns, MovesSp, Interrupts, Resumes, Waits}
+use Rattle.instructions.specs.declared.form.Form.the-variants.{Computes, StoresByte, StoresWord, PushesByte, PushesWord}
+use Rattle.instructions.specs.declared.form.Form.the-variants.{PullsByte, PullsWord, Reserves, Releases, Branches}
+use Rattle.instructions.specs.declared.form.Form.the-variants.{Jumps}
+use Rattle.instructions.specs.declared.form.Form.the-variants.{Calls, Returns, MovesSp, Interrupts, Resumes, Waits}
 use Rattle.stepper.specs.Step.{fetched}
 
 -- JSR and BSR call, RTS returns

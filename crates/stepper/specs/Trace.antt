@@ -1,5 +1,5 @@
--- A trace: the instructions that the step does one after another, and the sum of their cycles (document 01's "way home" is one that ends at PC $0000;
--- "the sum over the instructions executed" is a trace's).
+-- A trace: the instructions that the step does one after another, and the sum of their cycles (document 01's "way
+-- home" is one that ends at PC $0000).
 -- Assumes nothing.
 use Prim.Native.Nat.{ℕ, _+_}
 use mathlib.Core.Path.{_≡_}
@@ -9,7 +9,7 @@ use Rattle.memory.specs.Memory.{Store, applied}
 use Rattle.stepper.specs.Step.{did, didOf}
 use Rattle.stepper.specs.Flow.{Flow, flowOf}
 
--- an instruction of a trace: its kind, its stores in order, its cycles, and SP after it
+-- an instruction of a trace: its flow, its stores in order, its cycles, and SP after it
 pub record Event : Type 0 where
   pub flow : Flow
   pub stores : List Store
@@ -20,8 +20,11 @@ abbrev pub total : List Event → ℕ
 total [] = 0
 total (d ∷ ds) = d .cycles + total ds
 
--- `Along r m ds q n`: from the registers r and the memory m the step does the instructions ds, none of them at home, and reaches q and n
+-- `Along r m ds q n`: from the registers r and the memory m the step does the instructions ds, none of them at home,
+-- and
+-- reaches q and n
 pub data Along : Registers → List ℕ → List Event → Registers → List ℕ → Type 0 where
   stay : {r : Registers} {m : List ℕ} → Along r m [] r m
-  then : {r q e : Registers} {m n : List ℕ} {ws : List Store} {k : ℕ} {ds : List Event} → (r .pc ≡ 0 → ⊥) → didOf r m ≡ did q ws k → Along q (applied ws m) ds e n
+  then : {r q e : Registers} {m n : List ℕ} {ws : List Store} {k : ℕ} {ds : List Event} → (r .pc ≡ 0 → ⊥)
+      → didOf r m ≡ did q ws k → Along q (applied ws m) ds e n
       → Along r m (record { flow = flowOf m (r .pc); stores = ws; cycles = k; sp = q .sp } ∷ ds) e n

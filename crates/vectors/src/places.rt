@@ -23,7 +23,8 @@ fn refused(x: Refusal, kept: bool) -> Stands {
     if !kept | (x.place != 0x8000) {
         return Stands::Wrong;
     }
-    match x.number {
+    let number = x.number;
+    match number {
         22 => Stands::Empty,
         23 => Stands::Waits,
         _ => Stands::Wrong,

@@ -24,7 +24,11 @@ use Rattle.stepper.specs.Step.{carriedOut, didOf, stepOf, After}
 use Rattle.stepper.specs.Run.{runFrom, runOf, AfterRun}
 
 unfoldable pub stepNow : Registers → List ℕ → After
-unfolding wrappingAdd wrappingSub byteAt wordAt withByte rows costs actions modes costAt actionAt modeAt truthWords holdsOf pageOf opcodePlace opcodeSize operandOf instructionOf decodeAt targetOf addressIn targetIn formOf add8Of sub8Of add16Of sub16Of mulOf daaOf idivOf fdivOf addressOf operandAddress byteOperand wordOperand maskOf readsOf inputOf replaced inherentOf accumulatorOf withAccumulator indexRegisterOf withIndex wordRegisterOf toWord outcomeOf stackedOf interruptedOf resumedOf effectBy effectOf carriedOut didOf
+unfolding wrappingAdd wrappingSub byteAt wordAt withByte rows costs actions modes costAt actionAt modeAt truthWords
+    holdsOf pageOf opcodePlace opcodeSize operandOf instructionOf decodeAt targetOf addressIn targetIn formOf add8Of
+    sub8Of add16Of sub16Of mulOf daaOf idivOf fdivOf addressOf operandAddress byteOperand wordOperand maskOf
+    readsOf inputOf replaced inherentOf accumulatorOf withAccumulator indexRegisterOf withIndex wordRegisterOf
+    toWord outcomeOf stackedOf interruptedOf resumedOf effectBy effectOf carriedOut didOf
 stepNow r m = stepOf r m
 
 unfoldable pub runNow : Registers → List ℕ → ℕ → AfterRun

@@ -1,4 +1,5 @@
--- A run until PC is a bound or below, its first instruction wherever it stands: what the loop that a step and a run share
+-- A run until PC is a bound or below, its first instruction wherever it stands: what the loop that a step and a run
+-- share
 -- comes to.
 -- Assumes nothing.
 use Prim.Native.Nat.{ℕ, zero, suc}

@@ -17,7 +17,13 @@ found-of-requires : tie.Need-found-of-requires
 found-of-requires c κs = search needs
 
 returns : tie.Need-returns
-returns c = simp (c .found-of .ensures, c .before .byte-at2 .ensures, c .before .before .wrapping-add .ensures, c .before .before .before .byte-at .ensures)
+returns c =
+    simp (
+      c .found-of .ensures,
+      c .before .byte-at2 .ensures,
+      c .before .before .wrapping-add .ensures,
+      c .before .before .before .byte-at .ensures,
+    )
 
 pub find-spec : {M : Type 1} → statement M
 find-spec =

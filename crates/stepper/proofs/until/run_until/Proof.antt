@@ -1,4 +1,5 @@
--- `run_until` meets its contract. The invariant of its loop: memory is as long as it was, PC fits 16 bits, and the run from here with the budget left
+-- `run_until` meets its contract. The invariant of its loop: memory is as long as it was, PC fits 16 bits, and the run
+-- from here with the budget left
 -- comes to what the run from the call does. The measure is the budget left, which each instruction lessens.
 -- Assumes nothing.
 use borrow.Author.Needs.{needs}
@@ -17,12 +18,14 @@ use Rattle.stepper.proofs.until.run_until.Statement.{statement}
 use Rattle.stepper.proofs.until.run_until.Tie as tie
 
 abbrev Inv-loop : tie.InvT-loop
-Inv-loop mem₀ budget last tc ta tm q₀ left₀ mem q left = (length mem ≡ length mem₀) × (q .pc < 65536) × CameTo last budget q₀ mem₀ left q mem
+Inv-loop mem₀ budget last tc ta tm q₀ left₀ mem q left =
+    (length mem ≡ length mem₀) × (q .pc < 65536) × CameTo last budget q₀ mem₀ left q mem
 
 abbrev μ-loop : tie.MeasureT-loop
 μ-loop mem₀ budget last tc ta tm q₀ left₀ mem q left = left
 
--- from a point of the loop back to the call, to the turn's begin, to the place that was found, and past the budget's test to that of the number
+-- from a point of the loop back to the call, to the turn's begin, to the place that was found, and past the budget's
+-- test to that of the number
 abbrev called : tie.At-loop Inv-loop μ-loop → tie.Start Inv-loop μ-loop
 called c = c .before .before .before .before .before
 
@@ -43,7 +46,12 @@ whole c = c .loop .inv .0 ∙ called c .pre
 
 here : (c : tie.After-place Inv-loop μ-loop)
     → let l = turn c .loop in let g = c .place .given .0 in Here (l .q) (l .mem) (g .0) (g .1 .0) (g .1 .1 .0)
-here c = record { whole = whole (turn c); low = turn c .loop .inv .1; found = sym (c .before .before .find .ensures) ∙ c .place .given .1 }
+here c =
+    record {
+      whole = whole (turn c);
+      low = turn c .loop .inv .1;
+      found = sym (c .before .before .find .ensures) ∙ c .place .given .1;
+    }
 
 -- the turn's step, from what `execute` ensures
 executed : (c : tie.After-execute Inv-loop μ-loop)
@@ -54,12 +62,14 @@ executed c =
     let n = w .before .number-at in
     let k = c .before .before .before .before .before .mode-number-at in
     executes (here (placed w)) (n .result) (n .ensures) (w .waits .ensures) (passed c .before .if1 .left)
-    (k .result) (k .ensures) (c .before .before .before .before .wrapping-add .ensures) (c .before .before .before .wrapping-add2 .ensures)
+    (k .result) (k .ensures) (c .before .before .before .before .wrapping-add .ensures)
+    (c .before .before .before .wrapping-add2 .ensures)
     (c .before .before .with-pc .ensures) (c .execute .ensures)
 
 loop-holds : tie.Need-loop-holds Inv-loop μ-loop
 loop-holds c =
-    let z = c .before .before .before .before .args in (refl, omega arith, begun (z .last) (z .budget) (z .r) (z .mem .now))
+    let z =
+    c .before .before .before .before .args in (refl, omega arith, begun (z .last) (z .budget) (z .r) (z .mem .now))
 
 find-requires : tie.Need-find-requires Inv-loop μ-loop
 find-requires c κs = (whole (c .before .before), c .before .before .before .before .before .costs .ensures)
@@ -74,10 +84,12 @@ returns : tie.Need-returns Inv-loop μ-loop
 returns c =
     let l = c .before .before .before .before .before .loop in
     let nothing = sym (c .before .before .find .ensures) ∙ c .enum-told .given .1 in
-    told (stopped (l .inv .2) (nowhere (l .q) (l .mem) (whole (c .before .before .before .before .before)) (l .inv .1) nothing))
+    told (stopped (l .inv .2) (nowhere (l .q) (l .mem) (whole (c .before .before .before .before .before)) (l .inv .1)
+    nothing))
 
 number-at-requires : tie.Need-number-at-requires Inv-loop μ-loop
-number-at-requires c κs = (in-tables _ _ (here (c .before .before) .found), turn (c .before .before) .before .before .actions .ensures)
+number-at-requires c κs =
+    (in-tables _ _ (here (c .before .before) .found), turn (c .before .before) .before .before .actions .ensures)
 
 sub-t26 : tie.Need-sub-t26 Inv-loop μ-loop
 sub-t26 c = turn (placed (c .before)) .loop .inv .2 .within
@@ -89,7 +101,8 @@ returns-2 : tie.Need-returns-2 Inv-loop μ-loop
 returns-2 c =
     let w = c .before in
     let n = w .before .number-at in
-    told (stopped (turn (placed w) .loop .inv .2) (waiting (here (placed w)) (n .result) (n .ensures) (w .waits .ensures) (c .if1 .taken)))
+    told (stopped (turn (placed w) .loop .inv .2) (waiting (here (placed w)) (n .result) (n .ensures)
+    (w .waits .ensures) (c .if1 .taken)))
 
 sub-t29 : tie.Need-sub-t29 Inv-loop μ-loop
 sub-t29 c = turn (placed (c .before .before)) .loop .inv .2 .within
@@ -119,7 +132,8 @@ execute-requires c κs =
     let p = placed w in (
       whole (turn p),
       (
-        executable (n .result) (w .waits .ensures) (c .before .before .before .before .before .before .before .if1 .left),
+        executable (n .result) (w .waits .ensures)
+            (c .before .before .before .before .before .before .before .if1 .left),
         fit (p .place .given .0 .0) (n .result) (k .result) (n .ensures) (k .ensures),
       ),
     )
@@ -130,7 +144,8 @@ sub-t40 c =
 
 same-length-4 : tie.Need-same-length-4 Inv-loop μ-loop
 same-length-4 c =
-    let x = c .before .before .before .before in x .execute .kept .1 .1 .1 .1 .0 ∙ turn (placed (waited x)) .loop .inv .0
+    let x =
+    c .before .before .before .before in x .execute .kept .1 .1 .1 .1 .0 ∙ turn (placed (waited x)) .loop .inv .0
 
 returns-4 : tie.Need-returns-4 Inv-loop μ-loop
 returns-4 c =
@@ -145,8 +160,11 @@ loop-less c =
 loop-again : tie.Need-loop-again Inv-loop μ-loop
 loop-again c =
     let x = c .before .before .before .before in
-    let l = turn (placed (waited x)) .loop in
-    (x .execute .kept .1 .1 .1 .1 .0 ∙ l .inv .0, omega arith, again (l .inv .2) (executed x) (passed x .if2 .left) (omega arith) (c .if3 .left))
+    let l = turn (placed (waited x)) .loop in (
+      x .execute .kept .1 .1 .1 .1 .0 ∙ l .inv .0,
+      omega arith,
+      again (l .inv .2) (executed x) (passed x .if2 .left) (omega arith) (c .if3 .left),
+    )
 
 pub run-until-spec : {M : Type 1} → statement M
 run-until-spec =
