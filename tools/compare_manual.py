@@ -48,7 +48,8 @@ def entry_of(row):
     """What a row says, as a column would."""
     mode, operands = MODES[row.mode]
     opcode = f"{PREFIX[row.place // 256]}{row.place % 256:02X}"
-    return Entry(mnemonic(row.action, row.mode), mode, opcode, operands, str(row.length), str(row.cycles), f"row 0x{row.place:03x}")
+    name, length, cycles = mnemonic(row.action, row.mode), str(row.length), str(row.cycles)
+    return Entry(name, mode, opcode, operands, length, cycles, f"row 0x{row.place:03x}")
 
 
 def rows_of(col, entries):

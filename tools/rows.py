@@ -1,4 +1,4 @@
-"""The rows of crates/opcodes/specs/Rows.antt and the manual's names of their actions, for the scripts of this folder."""
+"""The rows of crates/opcodes/specs/Rows.antt and the manual's names of their actions, for the scripts here."""
 import re
 from collections import namedtuple
 from pathlib import Path

@@ -1,4 +1,5 @@
--- An entry for each action: what it reads, its form, and what it computes (the manual's "Operation" and condition codes).
+-- An entry for each action: what it reads, its form and what it computes, under the manual's names (the manual's
+-- "Operation" and "Condition Codes" of each).
 -- Assumes nothing.
 use Prim.Native.Nat.{ℕ, _%_}
 use Rattle.registers.specs.Flags.{byteOf}
@@ -42,9 +43,11 @@ entryOf (TstAccumulator c) =
     entry nothing (always Computes) (λ k v sp d. computes (withFlags d (byteOf (tstOf (accumulatorOf c d) (codes d)))))
 -- SUBA CMPA SBCA ANDA BITA LDAA EORA ADCA ORAA ADDA, SUBB CMPB SBCB ANDB BITB LDAB EORB ADCB ORAB ADDB
 entryOf (Binary b c) =
-    entry operandByte (always Computes) (λ k v sp d. computes (toAccumulator c d (binaryOf b (accumulatorOf c d) v (codes d))))
+    entry operandByte (always Computes)
+    (λ k v sp d. computes (toAccumulator c d (binaryOf b (accumulatorOf c d) v (codes d))))
 -- TST
-entryOf TstMemory = entry operandByte (always Computes) (λ k v sp d. computes (withFlags d (byteOf (tstOf v (codes d)))))
+entryOf TstMemory =
+    entry operandByte (always Computes) (λ k v sp d. computes (withFlags d (byteOf (tstOf v (codes d)))))
 -- LDD LDX LDY LDS
 entryOf (LoadWord w) =
     entry operandWord (always (loadForm w)) (λ k v sp d. gives v (toWord w d v (byteOf (logic16Of v (codes d)))))
@@ -61,7 +64,8 @@ entryOf (StoreByte c) =
     entry nothing (atOperand StoresByte) (λ k v sp d. gives (accumulatorOf c d) (tested8 (accumulatorOf c d) d))
 -- STD STX STY STS
 entryOf (StoreWord w) =
-    entry nothing (atOperand StoresWord) (λ k v sp d. gives (wordRegisterOf w sp d) (tested16 (wordRegisterOf w sp d) d))
+    entry nothing (atOperand StoresWord)
+    (λ k v sp d. gives (wordRegisterOf w sp d) (tested16 (wordRegisterOf w sp d) d))
 -- NEG COM LSR ROR ASR ASL LSL ROL DEC INC CLR: CLR reads its byte before it writes, as every read-modify-write does
 entryOf (Modify u) = entry operandByte (atOperand StoresByte) (λ k v sp d. modifies d (unaryOf u v (codes d)))
 -- BSET

@@ -1,6 +1,6 @@
--- The form of an instruction, from its operand and the address after it: what it does to PC, SP and memory. Each action's
--- stands in its entry (`Entry.antt`). The step takes PC, SP and the addresses that are written from the form, and so do the
--- ticket rules (`rules/specs/Shape.antt`; document 01, "Rules at a mark").
+-- The form of an instruction, from its operand and the address after it: what it does to PC, SP and memory. An action
+-- has its form in its entry (`Entry.antt`). The step takes PC, SP and the addresses that are written from it, and so do
+-- the ticket rules (`rules/specs/Shape.antt`; document 01, "Rules at a mark").
 -- Assumes nothing.
 use Prim.Native.Nat.{ℕ}
 use mathlib.Core.Bool.{Bool, true, false, cond}

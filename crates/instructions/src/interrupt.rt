@@ -35,6 +35,7 @@ fn stack_all(r: Registers, mem: &mut [u8])
     put_byte(mem, wrapping_sub(r.sp, 8), r.flags);
 }
 
+// SWI.
 pub fn interrupt(r: Registers, mem: &mut [u8]) -> Registers
     requires { ⌜ length (now mem) ≡ 65536 ⌝ }
     ensures { λ q. ⌜ (q ≡ interruptedOf r (now (mem .entry))) × (now (mem .exit) ≡ applied (stackedOf r) (now (mem .entry))) ⌝ }
@@ -51,6 +52,7 @@ pub fn interrupt(r: Registers, mem: &mut [u8]) -> Registers
     }
 }
 
+// RTI.
 pub fn resume(r: Registers, mem: &[u8]) -> Registers
     requires { ⌜ length (now mem) ≡ 65536 ⌝ }
     ensures { λ q. ⌜ q ≡ resumedOf r (now (mem .entry)) ⌝ }

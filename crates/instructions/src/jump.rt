@@ -11,17 +11,17 @@ use opcodes::condition::holds;
 use registers::Registers;
 use registers::word::wrapping_sub;
 
-// Whether every bit of the mask k is set in v; whether none is.
-fn all_set(v: u8, k: u8) -> bool
-    ensures { λ r. ⌜ r ≡ allSet v k ⌝ }
+// Whether every bit of the mask is set in v; whether none is.
+fn all_set(v: u8, mask: u8) -> bool
+    ensures { λ b. ⌜ b ≡ allSet v mask ⌝ }
 {
-    (v & k) == k
+    (v & mask) == mask
 }
 
-fn none_set(v: u8, k: u8) -> bool
-    ensures { λ r. ⌜ r ≡ noneSet v k ⌝ }
+fn none_set(v: u8, mask: u8) -> bool
+    ensures { λ b. ⌜ b ≡ noneSet v mask ⌝ }
 {
-    (v & k) == 0
+    (v & mask) == 0
 }
 
 // On to the target of a branch that is taken.
@@ -31,25 +31,25 @@ fn branch_if(taken: bool, t: u16, r: Registers) -> Registers
     if taken { r.with_pc(t) } else { r }
 }
 
-// BRA .. BLE: the test k.
-pub fn branch(k: u8, t: u16, r: Registers) -> Registers
-    ensures { λ q. ⌜ GoesTo (Action.Branch k) t r q ⌝ }
+// BRA .. BLE, by the number of the test.
+pub fn branch(test: u8, t: u16, r: Registers) -> Registers
+    ensures { λ q. ⌜ GoesTo (Action.Branch test) t r q ⌝ }
 {
-    branch_if(holds(k, r.flags), t, r)
+    branch_if(holds(test, r.flags), t, r)
 }
 
-// BRSET of the byte v with the mask k.
-pub fn branch_set(v: u8, k: u8, t: u16, r: Registers) -> Registers
-    ensures { λ q. ⌜ GoesOnBits Action.Brset v k t r q ⌝ }
+// BRSET of the byte v.
+pub fn branch_set(v: u8, mask: u8, t: u16, r: Registers) -> Registers
+    ensures { λ q. ⌜ GoesOnBits Action.Brset v mask t r q ⌝ }
 {
-    branch_if(all_set(v, k), t, r)
+    branch_if(all_set(v, mask), t, r)
 }
 
-// BRCLR of the byte v with the mask k.
-pub fn branch_clear(v: u8, k: u8, t: u16, r: Registers) -> Registers
-    ensures { λ q. ⌜ GoesOnBits Action.Brclr v k t r q ⌝ }
+// BRCLR of the byte v.
+pub fn branch_clear(v: u8, mask: u8, t: u16, r: Registers) -> Registers
+    ensures { λ q. ⌜ GoesOnBits Action.Brclr v mask t r q ⌝ }
 {
-    branch_if(none_set(v, k), t, r)
+    branch_if(none_set(v, mask), t, r)
 }
 
 // JMP.

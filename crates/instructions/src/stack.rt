@@ -16,6 +16,7 @@ use registers::Registers;
 use registers::word::wrapping_add;
 use registers::word::wrapping_sub;
 
+// PSHA, PSHB.
 pub fn push_byte(c: Accumulator, r: Registers, mem: &mut [u8]) -> Registers
     requires { ⌜ length (now mem) ≡ 65536 ⌝ }
     ensures { λ q. ⌜ Does (Action.PushByte c) r (now (mem .entry)) q (now (mem .exit)) ⌝ }
@@ -24,6 +25,7 @@ pub fn push_byte(c: Accumulator, r: Registers, mem: &mut [u8]) -> Registers
     r.with_sp(wrapping_sub(r.sp, 1))
 }
 
+// PSHX, PSHY.
 pub fn push_word(i: Index, r: Registers, mem: &mut [u8]) -> Registers
     requires { ⌜ length (now mem) ≡ 65536 ⌝ }
     ensures { λ q. ⌜ Does (Action.PushWord i) r (now (mem .entry)) q (now (mem .exit)) ⌝ }
@@ -32,6 +34,7 @@ pub fn push_word(i: Index, r: Registers, mem: &mut [u8]) -> Registers
     r.with_sp(wrapping_sub(r.sp, 2))
 }
 
+// PULA, PULB.
 pub fn pull_byte(c: Accumulator, r: Registers, mem: &[u8]) -> Registers
     requires { ⌜ length (now mem) ≡ 65536 ⌝ }
     ensures { λ q. ⌜ Does (Action.PullByte c) r (now (mem .entry)) q (now (mem .entry)) ⌝ }
@@ -41,6 +44,7 @@ pub fn pull_byte(c: Accumulator, r: Registers, mem: &[u8]) -> Registers
     with_accumulator(c, r, v, r.flags).with_sp(s)
 }
 
+// PULX, PULY.
 pub fn pull_word(i: Index, r: Registers, mem: &[u8]) -> Registers
     requires { ⌜ length (now mem) ≡ 65536 ⌝ }
     ensures { λ q. ⌜ Does (Action.PullWord i) r (now (mem .entry)) q (now (mem .entry)) ⌝ }

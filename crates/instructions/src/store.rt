@@ -21,6 +21,7 @@ use opcodes::instruction::Unary;
 use opcodes::instruction::Word;
 use registers::Registers;
 
+// STAA, STAB.
 pub fn store_byte(c: Accumulator, at: u16, r: Registers, mem: &mut [u8]) -> Registers
     requires { ⌜ length (now mem) ≡ 65536 ⌝ }
     ensures { λ q. ⌜ StoresAt (Action.StoreByte c) at r (now (mem .entry)) q (now (mem .exit)) ⌝ }
@@ -30,6 +31,7 @@ pub fn store_byte(c: Accumulator, at: u16, r: Registers, mem: &mut [u8]) -> Regi
     r.with_flags(logic8(v, r.flags))
 }
 
+// STD, STX, STY, STS.
 pub fn store_word(w: Word, at: u16, r: Registers, mem: &mut [u8]) -> Registers
     requires { ⌜ length (now mem) ≡ 65536 ⌝ }
     ensures { λ q. ⌜ StoresAt (Action.StoreWord w) at r (now (mem .entry)) q (now (mem .exit)) ⌝ }
@@ -48,6 +50,7 @@ fn put_result(b: ByteResult, at: u16, r: Registers, mem: &mut [u8]) -> Registers
     r.with_flags(b.flags)
 }
 
+// NEG, COM, LSR, ROR, ASR, ASL, ROL, DEC, INC, CLR.
 pub fn modify(u: Unary, at: u16, r: Registers, mem: &mut [u8]) -> Registers
     requires { ⌜ length (now mem) ≡ 65536 ⌝ }
     ensures { λ q. ⌜ ModifiesAt (Action.Modify u) at r (now (mem .entry)) q (now (mem .exit)) ⌝ }
@@ -56,20 +59,20 @@ pub fn modify(u: Unary, at: u16, r: Registers, mem: &mut [u8]) -> Registers
     put_result(b, at, r, mem)
 }
 
-// BSET with the mask k.
-pub fn set_bits(k: u8, at: u16, r: Registers, mem: &mut [u8]) -> Registers
+// BSET.
+pub fn set_bits(mask: u8, at: u16, r: Registers, mem: &mut [u8]) -> Registers
     requires { ⌜ length (now mem) ≡ 65536 ⌝ }
-    ensures { λ q. ⌜ MasksAt Action.Bset k at r (now (mem .entry)) q (now (mem .exit)) ⌝ }
+    ensures { λ q. ⌜ MasksAt Action.Bset mask at r (now (mem .entry)) q (now (mem .exit)) ⌝ }
 {
-    let b = bset(byte_at(mem, at), k, r.flags);
+    let b = bset(byte_at(mem, at), mask, r.flags);
     put_result(b, at, r, mem)
 }
 
-// BCLR with the mask k.
-pub fn clear_bits(k: u8, at: u16, r: Registers, mem: &mut [u8]) -> Registers
+// BCLR.
+pub fn clear_bits(mask: u8, at: u16, r: Registers, mem: &mut [u8]) -> Registers
     requires { ⌜ length (now mem) ≡ 65536 ⌝ }
-    ensures { λ q. ⌜ MasksAt Action.Bclr k at r (now (mem .entry)) q (now (mem .exit)) ⌝ }
+    ensures { λ q. ⌜ MasksAt Action.Bclr mask at r (now (mem .entry)) q (now (mem .exit)) ⌝ }
 {
-    let b = bclr(byte_at(mem, at), k, r.flags);
+    let b = bclr(byte_at(mem, at), mask, r.flags);
     put_result(b, at, r, mem)
 }

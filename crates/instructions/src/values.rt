@@ -17,24 +17,27 @@ use opcodes::instruction::Unary;
 use opcodes::instruction::Word;
 use registers::Registers;
 
+// NEGA, NEGB ..: a byte of an accumulator.
 pub fn unary_on(u: Unary, c: Accumulator, r: Registers) -> Registers
     ensures { λ q. ⌜ Leaves (Action.Unary u c) r q ⌝ }
 {
-    let w = unary(u, accumulator(c, r), r.flags);
-    with_accumulator(c, r, w.value, w.flags)
+    let made = unary(u, accumulator(c, r), r.flags);
+    with_accumulator(c, r, made.value, made.flags)
 }
 
+// TSTA, TSTB.
 pub fn test_accumulator(c: Accumulator, r: Registers) -> Registers
     ensures { λ q. ⌜ Leaves (Action.TstAccumulator c) r q ⌝ }
 {
     r.with_flags(tst(accumulator(c, r), r.flags))
 }
 
+// SUBA, SUBB ..: a byte of an accumulator and the operand byte v.
 pub fn binary_on(b: Binary, c: Accumulator, v: u8, r: Registers) -> Registers
     ensures { λ q. ⌜ TakesByte (Action.Binary b c) v r q ⌝ }
 {
-    let w = binary(b, accumulator(c, r), v, r.flags);
-    with_accumulator(c, r, w.value, w.flags)
+    let made = binary(b, accumulator(c, r), v, r.flags);
+    with_accumulator(c, r, made.value, made.flags)
 }
 
 // TST of memory.
@@ -44,6 +47,7 @@ pub fn test_byte(v: u8, r: Registers) -> Registers
     r.with_flags(tst(v, r.flags))
 }
 
+// LDD, LDX, LDY, LDS.
 pub fn load_word(w: Word, v: u16, r: Registers) -> Registers
     ensures { λ q. ⌜ TakesWord (Action.LoadWord w) v r q ⌝ }
 {
@@ -56,20 +60,23 @@ pub fn load_word(w: Word, v: u16, r: Registers) -> Registers
     }
 }
 
+// ADDD.
 pub fn add_word(v: u16, r: Registers) -> Registers
     ensures { λ q. ⌜ TakesWord Action.Addd v r q ⌝ }
 {
-    let w = add16(r.d(), v, r.flags);
-    r.with_d(w.value, w.flags)
+    let made = add16(r.d(), v, r.flags);
+    r.with_d(made.value, made.flags)
 }
 
+// SUBD.
 pub fn subtract_word(v: u16, r: Registers) -> Registers
     ensures { λ q. ⌜ TakesWord Action.Subd v r q ⌝ }
 {
-    let w = sub16(r.d(), v, r.flags);
-    r.with_d(w.value, w.flags)
+    let made = sub16(r.d(), v, r.flags);
+    r.with_d(made.value, made.flags)
 }
 
+// CPD, CPX, CPY.
 pub fn compare_word(w: Word, v: u16, r: Registers) -> Registers
     ensures { λ q. ⌜ TakesWord (Action.CompareWord w) v r q ⌝ }
 {

@@ -1,5 +1,5 @@
--- What the code looks up by the first two bytes of an instruction. An inner matter of the code: what stands at an address
--- is `decodeOf`.
+-- What the code looks up by the first two bytes of an instruction. An inner matter of the code: what stands at an
+-- address is `decodeOf`.
 -- Assumes nothing.
 use Prim.Native.Nat.{ℕ}
 use mathlib.Core.Bool.{cond}
