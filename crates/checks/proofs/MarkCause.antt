@@ -5,8 +5,8 @@ use mathlib.Core.Path.{_≡_, refl, sym, _∙_}
 use mathlib.Core.Bool.{Bool, true, false, cond, _&&_}
 use mathlib.Core.List.{List, _++_}
 use lib.Dec.{eqb}
-use Rattle.commands.specs.Cause.{holds}
-use Rattle.commands.specs.declared.command.Window.{Window}
+use Rattle.commands.specs.Header.{holds}
+use Rattle.commands.specs.declared.header.Window.{Window}
 use Rattle.ticket.specs.declared.fields.Mark.{Mark}
 use Rattle.ticket.specs.Fields.{Fields}
 use Rattle.ticket.specs.Read.{refusal}

@@ -5,7 +5,7 @@ ghost use Prim.Native.Nat.{_+_, _≤_};
 ghost use lib.Dec.{leb};
 ghost use Rattle.opcodes.specs.Tables.{costs, actions, modes};
 ghost use Rattle.opcodes.specs.inner.Numbers.{actionOf, modeOf};
-ghost use Rattle.commands.specs.Cause.{pastOf};
+ghost use Rattle.commands.specs.Header.{pastOf};
 ghost use Rattle.rules.specs.Marks.{imageFrom};
 ghost use Rattle.rules.specs.Shape.{shapeOf, instructionSize};
 ghost use Rattle.checks.specs.inner.Said.{shapeSaid};
@@ -15,8 +15,8 @@ use crate::find::find;
 use crate::image::shape_at;
 use crate::shape::Shape;
 use crate::shape::Successors;
-use commands::command::Window;
-use commands::command::past;
+use commands::header::Window;
+use commands::header::past;
 
 // Whether the instruction stays inside the code window; and for its first and its second successor, which mark is theirs. Where there is one successor it stands
 // twice, and where no mark is theirs the number is that of all marks.

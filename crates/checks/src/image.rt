@@ -11,7 +11,7 @@ ghost use Rattle.rules.specs.Shape.{shapeIn, shapeOf, instructionSize};
 ghost use Rattle.checks.specs.inner.Said.{shapeSaid};
 use crate::shape::Shape;
 use crate::shape::shape_by;
-use commands::command::Window;
+use commands::header::Window;
 use instructions::form::form_of;
 use opcodes::decoder::decode;
 use opcodes::instruction::Decoded;

@@ -7,8 +7,8 @@ use crate::shape::Ordinary;
 use crate::shape::Shape;
 use crate::shape::Writes;
 use commands::command::Claim;
-use commands::command::Window;
-use commands::command::holds;
+use commands::header::Window;
+use commands::header::holds;
 use registers::Cycles;
 use registers::word::wrapping_add;
 

@@ -17,7 +17,7 @@ use crate::mark::mark_cause;
 use crate::whole::whole;
 use answers::Verdict;
 use answers::refuse;
-use commands::command::Window;
+use commands::header::Window;
 use opcodes::table::actions;
 use opcodes::table::costs;
 use opcodes::table::modes;

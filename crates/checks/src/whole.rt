@@ -5,7 +5,7 @@ use crate::mark::Marked;
 use answers::Verdict;
 use answers::refuse;
 use commands::command::Claim;
-use commands::prefix::Header;
+use commands::header::Header;
 use registers::StackBytes;
 
 // With the claim at the entry.

@@ -4,24 +4,24 @@ use Prim.Native.Nat.{ℕ, suc}
 use native.Mathlib.Omega.{arith}
 use mathlib.Core.Path.{_≡_, refl}
 use mathlib.Core.Bool.{Bool, true, false, cond}
-use Rattle.commands.specs.Cause.{inOrder, rangesHold, edgesHold, separate, inside, causeOf}
+use Rattle.commands.specs.Cause.{inOrder, rangesHold, edgesHold, separate, inside, commandCauseOf}
 use Rattle.commands.specs.declared.command.Command.{Command}
-use Rattle.commands.specs.declared.prefix.Prefix.{Prefix}
+use Rattle.commands.specs.declared.progress.Progress.{Progress}
 
 -- a test that does not stop at its cause
 passed : (b : Bool) (v n : ℕ) → cond b v (suc n) ≡ 0 → (b ≡ true) × (v ≡ 0)
 passed true v n e = (refl, e)
 passed false v n e = absurd (omega arith)
 
-pub record Allowed (p : Prefix) (c : Command) : Type 0 where
+pub record Allowed (p : Progress) (c : Command) : Type 0 where
   pub ordered : inOrder p c ≡ true
   pub ranged : rangesHold c ≡ true
   pub edged : edgesHold c ≡ true
   pub separated : separate (p .header) c ≡ true
   pub placed : inside (p .header) c ≡ true
 
-pub allowed : (p : Prefix) (c : Command) → causeOf p c ≡ 0 → Allowed p c
-unfolding causeOf
+pub allowed : (p : Progress) (c : Command) → commandCauseOf p c ≡ 0 → Allowed p c
+unfolding commandCauseOf
 allowed p c e =
     let o = passed (inOrder p c) _ 2 e in
     let r = passed (rangesHold c) _ 3 (o .1) in
@@ -30,6 +30,6 @@ allowed p c e =
     let i = passed (inside (p .header) c) _ 6 (s .1) in
     record { ordered = o .0; ranged = r .0; edged = g .0; separated = s .0; placed = i .0 }
 
-pub allow : (p : Prefix) (c : Command) → Allowed p c → causeOf p c ≡ 0
-unfolding causeOf
+pub allow : (p : Progress) (c : Command) → Allowed p c → commandCauseOf p c ≡ 0
+unfolding commandCauseOf
 allow p c a = rw (a .ordered, a .ranged, a .edged, a .separated, a .placed)

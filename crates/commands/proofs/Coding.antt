@@ -12,16 +12,16 @@ use lib.Seq.{take-at, drop-at, take-add, length-take-le}
 use borrow.Author.Tests.{ltb-true, leb-true, le-leb}
 use Rattle.commands.specs.Number.{number, digits, AllBytes}
 use Rattle.commands.specs.Rows.{Operand, widthIn, rowOf, known}
-use Rattle.commands.specs.Bytes.{byteOf, operandsOf, joined, encodeOf, sizeOf, widthOf, operandsIn, commandsWith, commandOf, decodeOf}
+use Rattle.commands.specs.Bytes.{commandByteOf, operandsOf, joined, encodeOf, sizeOf, widthOf, operandsIn, commandsWith, commandOf, parseOf}
 use Rattle.commands.specs.Fits.{FitsRow, Fits}
 use Rattle.commands.specs.Fits.FitsRow.{none, more}
-use Rattle.commands.specs.Prefix.{afterOf}
-use Rattle.commands.specs.declared.command.Kind.the-variants.{Code, Data, Stack}
+use Rattle.commands.specs.Progress.{afterOf}
+use Rattle.commands.specs.declared.header.WindowKind.the-variants.{Code, Data, Stack}
 use Rattle.commands.specs.declared.command.Command.{Command}
 use Rattle.commands.specs.declared.command.Command.the-variants as Command
-use Rattle.commands.specs.declared.command.Decoded.{Decoded}
-use Rattle.commands.specs.declared.command.Decoded.the-variants as Decoded
-use Rattle.commands.specs.declared.prefix.Prefix.{Prefix}
+use Rattle.commands.specs.declared.parse.Parsed.{Parsed}
+use Rattle.commands.specs.declared.parse.Parsed.the-variants as Parsed
+use Rattle.commands.specs.declared.progress.Progress.{Progress}
 use Rattle.commands.proofs.Digits.{length-digits, number-digits, number-below, digits-number, bytes-take, bytes-drop}
 
 pub length-encode : (c : Command) → length (encodeOf c) ≡ widthOf c
@@ -38,7 +38,7 @@ pub width-positive : (c : Command) → 1 ≤ widthOf c
 unfolding widthOf
 width-positive c = omega arith
 
-pub after-at : (p : Prefix) (c : Command) → afterOf p c .at ≡ p .at + widthOf c
+pub after-at : (p : Progress) (c : Command) → afterOf p c .at ≡ p .at + widthOf c
 unfolding afterOf widthOf
 after-at p Command.End = refl
 after-at p (Command.Window Code w) = refl
@@ -82,7 +82,7 @@ fits-operands (o ∷ os) s a room =
 
 -- ---- a command and its byte
 
-byte-known : (c : Command) → known (byteOf c) ≡ true
+byte-known : (c : Command) → known (commandByteOf c) ≡ true
 byte-known Command.End = refl
 byte-known (Command.Window Code w) = refl
 byte-known (Command.Window Data w) = refl
@@ -92,7 +92,7 @@ byte-known (Command.Mark a m) = refl
 byte-known (Command.Name a t) = refl
 
 -- the command of a command's byte and operands
-commands-with : (c : Command) → getD (commandsWith (operandsOf c)) (byteOf c) Command.End ≡ c
+commands-with : (c : Command) → getD (commandsWith (operandsOf c)) (commandByteOf c) Command.End ≡ c
 commands-with Command.End = refl
 commands-with (Command.Window Code w) = refl
 commands-with (Command.Window Data w) = refl
@@ -102,7 +102,7 @@ commands-with (Command.Mark a m) = refl
 commands-with (Command.Name a t) = refl
 
 -- the command of a byte has that byte, and the operands that it was made with
-command-parts : (b : ℕ) (s : List ℕ) → b < 7 → (byteOf (commandOf b s) ≡ b) × (operandsOf (commandOf b s) ≡ operandsIn (rowOf b) s)
+command-parts : (b : ℕ) (s : List ℕ) → b < 7 → (commandByteOf (commandOf b s) ≡ b) × (operandsOf (commandOf b s) ≡ operandsIn (rowOf b) s)
 unfolding commandOf
 command-parts zero s h = (refl, refl)
 command-parts (suc zero) s h = (refl, refl)
@@ -115,47 +115,47 @@ command-parts (suc (suc (suc (suc (suc (suc (suc b))))))) s h = let z : ⊥ = om
 
 -- ---- reading
 
-pub decode-encode : (c : Command) (s : List ℕ) → Fits c → decodeOf (encodeOf c ++ s) ≡ Decoded.Found c
-unfolding decodeOf encodeOf commandOf widthOf
-decode-encode c s f =
-    let row = rowOf (byteOf c) in
+pub parse-encode : (c : Command) (s : List ℕ) → Fits c → parseOf (encodeOf c ++ s) ≡ Parsed.Found c
+unfolding parseOf encodeOf commandOf widthOf
+parse-encode c s f =
+    let row = rowOf (commandByteOf c) in
     let room : sizeOf row ≤ length (joined row (operandsOf c) ++ s) = simp length-append (omega (arith, length-encode c)) in
     rw (byte-known c, le-leb _ _ room, operands-joined f s, commands-with c)
 
 module _ (b : ℕ) (s : List ℕ) (c : Command) where
-  picked : (k r : Bool) → cond k (cond r (Decoded.Found (commandOf b s)) Decoded.Cut) Decoded.Unknown ≡ Decoded.Found c → (k ≡ true) × (r ≡ true) × (commandOf b s ≡ c)
+  picked : (k r : Bool) → cond k (cond r (Parsed.Found (commandOf b s)) Parsed.Cut) Parsed.Unknown ≡ Parsed.Found c → (k ≡ true) × (r ≡ true) × (commandOf b s ≡ c)
   picked true true e = (refl, refl, cc)
   picked true false e = (refl, cc, cc)
   picked false true e = (cc, refl, cc)
   picked false false e = (cc, cc, cc)
 
   -- what is read from a byte and those after it has that byte and their operands
-  parts : decodeOf (b ∷ s) ≡ Decoded.Found c → (byteOf c ≡ b) × (operandsOf c ≡ operandsIn (rowOf b) s) × (sizeOf (rowOf b) ≤ length s)
-  unfolding decodeOf
+  parts : parseOf (b ∷ s) ≡ Parsed.Found c → (commandByteOf c ≡ b) × (operandsOf c ≡ operandsIn (rowOf b) s) × (sizeOf (rowOf b) ≤ length s)
+  unfolding parseOf
   parts e =
       let p = picked (known b) (leb (sizeOf (rowOf b)) (length s)) e in
       let q = command-parts b s (ltb-true _ _ (p .0)) in
       (cc (p .2, q .0), cc (p .2, q .1), leb-true _ _ (p .1))
 
 -- nothing is read from no bytes
-none-found : (c : Command) → decodeOf [] ≡ Decoded.Found c → ⊥
-unfolding decodeOf
+none-found : (c : Command) → parseOf [] ≡ Parsed.Found c → ⊥
+unfolding parseOf
 none-found c e = let z : _≡_ {A = ℕ} 0 1 = cc in omega arith
 
-pub decode-room : (s : List ℕ) (c : Command) → decodeOf s ≡ Decoded.Found c → widthOf c ≤ length s
+pub parse-room : (s : List ℕ) (c : Command) → parseOf s ≡ Parsed.Found c → widthOf c ≤ length s
 unfolding widthOf
-decode-room [] c e = absurd (none-found c e)
-decode-room (b ∷ s) c e = let p = parts b s c e in rw (p .0) (omega (arith, p .2))
+parse-room [] c e = absurd (none-found c e)
+parse-room (b ∷ s) c e = let p = parts b s c e in rw (p .0) (omega (arith, p .2))
 
-pub encode-decode : (s : List ℕ) (c : Command) → AllBytes s → decodeOf s ≡ Decoded.Found c → encodeOf c ++ drop (widthOf c) s ≡ s
+pub encode-parse : (s : List ℕ) (c : Command) → AllBytes s → parseOf s ≡ Parsed.Found c → encodeOf c ++ drop (widthOf c) s ≡ s
 unfolding encodeOf widthOf
-encode-decode [] c a e = absurd (none-found c e)
-encode-decode (b ∷ s) c a e =
+encode-parse [] c a e = absurd (none-found c e)
+encode-parse (b ∷ s) c a e =
     let p = parts b s c e in
     rw (p .1, p .0, joined-operands (rowOf b) s (bytes-drop 1 a) (p .2), one-add, take-append-drop (sizeOf (rowOf b)) s)
 
-pub fits-decoded : (s : List ℕ) (c : Command) → AllBytes s → decodeOf s ≡ Decoded.Found c → Fits c
-fits-decoded [] c a e = absurd (none-found c e)
-fits-decoded (b ∷ s) c a e =
+pub fits-parsed : (s : List ℕ) (c : Command) → AllBytes s → parseOf s ≡ Parsed.Found c → Fits c
+fits-parsed [] c a e = absurd (none-found c e)
+fits-parsed (b ∷ s) c a e =
     let p = parts b s c e in
     rw (p .1, p .0) (fits-operands (rowOf b) s (bytes-drop 1 a) (p .2))

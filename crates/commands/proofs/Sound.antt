@@ -1,4 +1,4 @@
--- Every prefix of a ticket is sound: the empty one is, and a command that is read keeps it so.
+-- The progress through every ticket is sound: at the beginning it is, and a command that is read keeps it so.
 -- Assumes nothing.
 use Prim.Native.Nat.{ℕ, _+_, _-_, _≤_, _<_}
 use native.Mathlib.Nat.{eq-zero-or-pos}
@@ -10,17 +10,19 @@ use lib.Dec.{eqb, ltb, leb}
 use borrow.Author.Tests.{ltb-true, leb-true, eqb-true, ne-eqb}
 use Rattle.commands.specs.Rows.{between}
 use Rattle.lists.specs.Bit.{one}
-use Rattle.commands.specs.Prefix.{startOf, withWindow, stagedOf, markedOf, namedOf, afterOf, Sound}
-use Rattle.commands.specs.Cause.{rangesHold, causeOf}
-use Rattle.commands.specs.Admit.{admitOf, thenOf, SoundSoFar, stopped, sound}
-use Rattle.commands.specs.declared.command.Window.{Window}
-use Rattle.commands.specs.declared.command.Kind.{Kind}
-use Rattle.commands.specs.declared.command.Kind.the-variants.{Code, Data, Stack}
+use Rattle.commands.specs.Progress.{initialProgress, stagedOf, markedOf, namedOf, afterOf}
+use Rattle.commands.specs.inner.Sound.{Sound, SoundSoFar, stopped, sound}
+use Rattle.commands.specs.Header.{withWindow}
+use Rattle.commands.specs.Cause.{rangesHold, commandCauseOf}
+use Rattle.commands.specs.Admit.{admitOf, thenOf}
+use Rattle.commands.specs.declared.header.Window.{Window}
+use Rattle.commands.specs.declared.header.WindowKind.{WindowKind}
+use Rattle.commands.specs.declared.header.WindowKind.the-variants.{Code, Data, Stack}
 use Rattle.commands.specs.declared.command.Command.{Command}
 use Rattle.commands.specs.declared.command.Command.the-variants as Command
 use Rattle.answers.specs.declared.Refusal.{Refusal}
-use Rattle.commands.specs.declared.prefix.Header.{Header}
-use Rattle.commands.specs.declared.prefix.Prefix.{Prefix}
+use Rattle.commands.specs.declared.header.Header.{Header}
+use Rattle.commands.specs.declared.progress.Progress.{Progress}
 use Rattle.commands.specs.declared.admit.Admitted.{Admitted}
 use Rattle.commands.specs.declared.admit.Admitted.the-variants.{Refused, Next}
 use Rattle.commands.proofs.Causes.{Allowed, allowed}
@@ -28,14 +30,14 @@ use Rattle.commands.proofs.Causes.{Allowed, allowed}
 impossible : false ≡ true → _≡_ {A = ℕ} 0 1
 impossible e = cc
 
-pub sound-start : Sound startOf
+pub sound-start : Sound initialProgress
 sound-start = omega (arith, impossible)
 
-few : {p : Prefix} → Sound p → p .count ≤ 4096
+few : {p : Progress} → Sound p → p .count ≤ 4096
 few {p} s = ⊎-elim (λ z. omega arith) (λ o. omega (arith, s .rising o)) (eq-zero-or-pos (p .count))
 
 -- no more marks than the code window has bytes, and no more bytes than these marks and their names take
-pub bounds : {p : Prefix} → Sound p → (p .count ≤ 4096) × (p .at ≤ 90135)
+pub bounds : {p : Progress} → Sound p → (p .count ≤ 4096) × (p .at ≤ 90135)
 bounds {p} s =
     let c = few s in (
       c,
@@ -49,7 +51,7 @@ unfolding rangesHold
 short w e =
     leb-true (w .length) 4096 (and-eq-true-iff (leb 1 (w .length)) _ .0 (and-eq-true-iff (between 1 4096 (w .length)) true .0 e .0) .1)
 
-module _ (p : Prefix) (s : Sound p) where
+module _ (p : Progress) (s : Sound p) where
   to-window : (h : Header) → p .stage < 3 → h .code .length ≤ 4096 → Sound (stagedOf p 5 h)
   to-window h early small = let e = s .early (omega arith) in omega (arith, impossible)
 
@@ -93,7 +95,7 @@ module _ (p : Prefix) (s : Sound p) where
   rises : (a : ℕ) → (eqb (p .count) 0 || ltb (p .last) a) ≡ true → 1 ≤ p .count → p .last < a
   rises a e o = ltb-true (p .last) a (rw (ne-eqb (p .count) 0 (omega arith)) at e)
 
-  after-window : (k : Kind) (w : Window) → Allowed p (Command.Window k w) → Sound (stagedOf p 5 (withWindow k (p .header) w))
+  after-window : (k : WindowKind) (w : Window) → Allowed p (Command.Window k w) → Sound (stagedOf p 5 (withWindow k (p .header) w))
   after-window Code w a =
       to-window _ (omega (arith, eqb-true (p .stage) 0 (a .ordered))) (short w (a .ranged))
   after-window Data w a = to-window _ (omega (arith, eqb-true (p .stage) 1 (a .ordered))) (s .small)
@@ -112,11 +114,11 @@ module _ (p : Prefix) (s : Sound p) where
       to-name (eqb-true _ _ (o .0)) (and-eq-true-iff _ _ .0 (o .1) .0)
   after Command.End a = to-end (eqb-true _ _ (a .ordered))
 
-pub sound-after : (p : Prefix) (c : Command) → Sound p → causeOf p c ≡ 0 → Sound (afterOf p c)
+pub sound-after : (p : Progress) (c : Command) → Sound p → commandCauseOf p c ≡ 0 → Sound (afterOf p c)
 sound-after p c s e = after p s c (allowed p c e)
 
-module _ (p : Prefix) (c : Command) (s : Sound p) where
-  picked : (r : Refusal) (b : Bool) → eqb (causeOf p c) 0 ≡ b → SoundSoFar (cond b (Next (afterOf p c)) (Refused r))
+module _ (p : Progress) (c : Command) (s : Sound p) where
+  picked : (r : Refusal) (b : Bool) → eqb (commandCauseOf p c) 0 ≡ b → SoundSoFar (cond b (Next (afterOf p c)) (Refused r))
   picked r true e = sound (sound-after p c s (eqb-true _ _ e))
   picked r false e = stopped
 

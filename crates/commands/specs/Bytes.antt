@@ -7,26 +7,26 @@ use lib.Dec.{leb}
 use lib.ListN.{getD, length, take, drop, replicate}
 use Rattle.commands.specs.Number.{number, digits}
 use Rattle.commands.specs.Rows.{Operand, widthIn, rowOf, known}
-use Rattle.commands.specs.declared.command.Window.{Window}
-use Rattle.commands.specs.declared.command.Kind.{Kind}
-use Rattle.commands.specs.declared.command.Kind.the-variants.{Code, Data, Stack}
+use Rattle.commands.specs.declared.header.Window.{Window}
+use Rattle.commands.specs.declared.header.WindowKind.{WindowKind}
+use Rattle.commands.specs.declared.header.WindowKind.the-variants.{Code, Data, Stack}
 use Rattle.commands.specs.declared.command.Claim.{Claim}
 use Rattle.commands.specs.declared.command.Command.{Command}
 use Rattle.commands.specs.declared.command.Command.the-variants as Command
-use Rattle.commands.specs.declared.command.Decoded.{Decoded}
-use Rattle.commands.specs.declared.command.Decoded.the-variants as Decoded
+use Rattle.commands.specs.declared.parse.Parsed.{Parsed}
+use Rattle.commands.specs.declared.parse.Parsed.the-variants as Parsed
 
-abbrev pub byteOfKind : Kind → ℕ
-byteOfKind Code = 0x01
-byteOfKind Data = 0x02
-byteOfKind Stack = 0x03
+abbrev pub windowByteOf : WindowKind → ℕ
+windowByteOf Code = 0x01
+windowByteOf Data = 0x02
+windowByteOf Stack = 0x03
 
-abbrev pub byteOf : Command → ℕ
-byteOf Command.End = 0x00
-byteOf (Command.Window k w) = byteOfKind k
-byteOf (Command.Entry a l) = 0x04
-byteOf (Command.Mark a c) = 0x05
-byteOf (Command.Name a t) = 0x06
+abbrev pub commandByteOf : Command → ℕ
+commandByteOf Command.End = 0x00
+commandByteOf (Command.Window k w) = windowByteOf k
+commandByteOf (Command.Entry a l) = 0x04
+commandByteOf (Command.Mark a c) = 0x05
+commandByteOf (Command.Name a t) = 0x06
 
 abbrev pub operandsOf : Command → List ℕ
 operandsOf Command.End = []
@@ -42,7 +42,7 @@ joined (o ∷ os) [] = []
 joined (o ∷ os) (v ∷ vs) = digits (widthIn o) v ++ joined os vs
 
 unfoldable pub encodeOf : Command → List ℕ
-encodeOf c = byteOf c ∷ joined (rowOf (byteOf c)) (operandsOf c)
+encodeOf c = commandByteOf c ∷ joined (rowOf (commandByteOf c)) (operandsOf c)
 
 -- how many bytes the operands of a row have
 abbrev pub sizeOf : List Operand → ℕ
@@ -50,7 +50,7 @@ sizeOf [] = 0
 sizeOf (o ∷ os) = widthIn o + sizeOf os
 
 unfoldable pub widthOf : Command → ℕ
-widthOf c = 1 + sizeOf (rowOf (byteOf c))
+widthOf c = 1 + sizeOf (rowOf (commandByteOf c))
 
 -- the operands of a row that some bytes begin with
 abbrev pub operandsIn : List Operand → List ℕ → List ℕ
@@ -80,10 +80,10 @@ unfoldable pub commandOf : ℕ → List ℕ → Command
 commandOf b s = getD (commandsWith (operandsIn (rowOf b) s)) b Command.End
 
 -- an unknown byte comes before operands cut short (document 01's causes 1 and 2)
-unfoldable pub decodeOf : List ℕ → Decoded
-decodeOf [] = Decoded.Cut
-decodeOf (b ∷ s) =
-    cond (known b) (cond (leb (sizeOf (rowOf b)) (length s)) (Decoded.Found (commandOf b s)) Decoded.Cut) Decoded.Unknown
+unfoldable pub parseOf : List ℕ → Parsed
+parseOf [] = Parsed.Cut
+parseOf (b ∷ s) =
+    cond (known b) (cond (leb (sizeOf (rowOf b)) (length s)) (Parsed.Found (commandOf b s)) Parsed.Cut) Parsed.Unknown
 
 -- no command has more than 11 bytes
 abbrev pub padded : List ℕ → List ℕ

@@ -3,7 +3,7 @@
 use Prim.Native.Nat.{ℕ, _^_, _<_}
 use mathlib.Core.List.{List, [], _∷_}
 use Rattle.commands.specs.Rows.{Operand, widthIn, rowOf}
-use Rattle.commands.specs.Bytes.{byteOf, operandsOf}
+use Rattle.commands.specs.Bytes.{commandByteOf, operandsOf}
 use Rattle.commands.specs.declared.command.Command.{Command}
 
 pub data FitsRow : List Operand → List ℕ → Type 0 where
@@ -11,4 +11,4 @@ pub data FitsRow : List Operand → List ℕ → Type 0 where
   more : {o : Operand} {os : List Operand} {v : ℕ} {vs : List ℕ} → v < 256 ^ widthIn o → FitsRow os vs → FitsRow (o ∷ os) (v ∷ vs)
 
 abbrev pub Fits : Command → Type 0
-Fits c = FitsRow (rowOf (byteOf c)) (operandsOf c)
+Fits c = FitsRow (rowOf (commandByteOf c)) (operandsOf c)

@@ -1,8 +1,10 @@
 pub mod Every
 pub mod Number
 pub mod Rows
+pub mod Header
 pub mod Bytes
-pub mod Prefix
+pub mod Progress
 pub mod Cause
 pub mod Admit
 pub mod Fits
+pub mod inner

@@ -1,77 +1,30 @@
 // A command after those before it: refused, or read, with what it leaves for the next.
 ghost use mathlib.Core.Path.{_≡_};
 ghost use Prim.Native.Nat.{_+_, _<_};
-ghost use Rattle.commands.specs.Prefix.{Sound, withWindow, withEntry, stagedOf, markedOf, namedOf, afterOf};
-ghost use Rattle.commands.specs.Cause.{causeOf};
-ghost use Rattle.commands.specs.Admit.{admitOf, thenOf, SoundSoFar};
+ghost use Rattle.commands.specs.Progress.{stagedOf, markedOf, namedOf, afterOf};
+ghost use Rattle.commands.specs.inner.Sound.{Sound, SoundSoFar};
+ghost use Rattle.commands.specs.Header.{withWindow, withEntry};
+ghost use Rattle.commands.specs.Cause.{commandCauseOf};
+ghost use Rattle.commands.specs.Admit.{admitOf, thenOf};
 use crate::cause::cause;
 use crate::command::Command;
-use crate::command::Kind;
-use crate::command::Window;
-use crate::prefix::Header;
-use crate::prefix::Prefix;
+use crate::header::Header;
+use crate::header::with_entry;
+use crate::header::with_window;
+use crate::progress::Progress;
 use answers::Refusal;
-use registers::Cycles;
 
 pub enum Admitted {
     Refused(Refusal),
-    Next(Prefix),
-}
-
-fn with_window(h: Header, k: Kind, w: Window) -> Header
-    ensures { λ r. ⌜ r ≡ withWindow k h w ⌝ }
-{
-    let code = h.code;
-    let data = h.data;
-    let stack = h.stack;
-    let entry = h.entry;
-    let limit = h.limit;
-    match k {
-        Kind::Code => Header {
-            code: w,
-            data,
-            stack,
-            entry,
-            limit,
-        },
-        Kind::Data => Header {
-            code,
-            data: w,
-            stack,
-            entry,
-            limit,
-        },
-        Kind::Stack => Header {
-            code,
-            data,
-            stack: w,
-            entry,
-            limit,
-        },
-    }
-}
-
-fn with_entry(h: Header, entry: u16, limit: Cycles) -> Header
-    ensures { λ r. ⌜ r ≡ withEntry h entry limit ⌝ }
-{
-    let code = h.code;
-    let data = h.data;
-    let stack = h.stack;
-    Header {
-        code,
-        data,
-        stack,
-        entry,
-        limit,
-    }
+    Next(Progress),
 }
 
 // A command that says something of the header, or the end, leads to the next stage.
-fn staged(p: Prefix, width: u32, header: Header) -> Prefix
+fn staged(p: Progress, width: u32, header: Header) -> Progress
     requires { ⌜ (p .at + width < 4294967296) × (p .stage < 255) ⌝ }
     ensures { λ r. ⌜ r ≡ stagedOf p width header ⌝ }
 {
-    Prefix {
+    Progress {
         at: p.at + width,
         stage: p.stage + 1,
         header,
@@ -81,12 +34,12 @@ fn staged(p: Prefix, width: u32, header: Header) -> Prefix
     }
 }
 
-fn marked(p: Prefix, a: u16) -> Prefix
+fn marked(p: Progress, a: u16) -> Progress
     requires { ⌜ (p .at + 11 < 4294967296) × (p .count < 65535) ⌝ }
     ensures { λ r. ⌜ r ≡ markedOf p a ⌝ }
 {
     let header = p.header;
-    Prefix {
+    Progress {
         at: p.at + 11,
         stage: p.stage,
         header,
@@ -96,12 +49,12 @@ fn marked(p: Prefix, a: u16) -> Prefix
     }
 }
 
-fn named(p: Prefix) -> Prefix
+fn named(p: Progress) -> Progress
     requires { ⌜ p .at + 11 < 4294967296 ⌝ }
     ensures { λ r. ⌜ r ≡ namedOf p ⌝ }
 {
     let header = p.header;
-    Prefix {
+    Progress {
         at: p.at + 11,
         stage: p.stage,
         header,
@@ -111,8 +64,8 @@ fn named(p: Prefix) -> Prefix
     }
 }
 
-fn after(p: Prefix, c: Command) -> Prefix
-    requires { ⌜ Sound p × (causeOf p c ≡ 0) ⌝ }
+fn after(p: Progress, c: Command) -> Progress
+    requires { ⌜ Sound p × (commandCauseOf p c ≡ 0) ⌝ }
     ensures { λ r. ⌜ r ≡ afterOf p c ⌝ }
 {
     let h = p.header;
@@ -125,7 +78,7 @@ fn after(p: Prefix, c: Command) -> Prefix
     }
 }
 
-pub fn admit(p: Prefix, c: Command) -> Admitted
+pub fn admit(p: Progress, c: Command) -> Admitted
     requires { ⌜ Sound p ⌝ }
     ensures { λ r. ⌜ r ≡ admitOf p c ⌝ }
 {

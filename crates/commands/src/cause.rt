@@ -2,32 +2,32 @@
 ghost use mathlib.Core.Path.{_≡_};
 ghost use Rattle.commands.specs.Rows.{between, printable};
 ghost use Rattle.commands.specs.Number.{digits};
-ghost use Rattle.commands.specs.Cause.{turnOf, inOrder, rangesHold, startHolds, edgesHold, apart, separate, inside, causeOf};
+ghost use Rattle.commands.specs.Cause.{stageOf, inOrder, rangesHold, startHolds, edgesHold, apart, separate, inside, commandCauseOf};
 use crate::command::Claim;
 use crate::command::Command;
-use crate::command::Kind;
-use crate::command::Window;
-use crate::command::holds;
-use crate::command::past;
-use crate::prefix::Header;
-use crate::prefix::Prefix;
+use crate::header::Header;
+use crate::header::Window;
+use crate::header::WindowKind;
+use crate::header::holds;
+use crate::header::past;
+use crate::progress::Progress;
 
 // How many of $01 to $04 come before a window.
-fn turn_of(k: Kind) -> u8
-    ensures { λ r. ⌜ r ≡ turnOf k ⌝ }
+fn stage_of(k: WindowKind) -> u8
+    ensures { λ r. ⌜ r ≡ stageOf k ⌝ }
 {
     match k {
-        Kind::Code => 0,
-        Kind::Data => 1,
-        Kind::Stack => 2,
+        WindowKind::Code => 0,
+        WindowKind::Data => 1,
+        WindowKind::Stack => 2,
     }
 }
 
-fn in_order(p: Prefix, c: Command) -> bool
+fn in_order(p: Progress, c: Command) -> bool
     ensures { λ r. ⌜ r ≡ inOrder p c ⌝ }
 {
     match c {
-        Command::Window(k, _) => p.stage == turn_of(k),
+        Command::Window(k, _) => p.stage == stage_of(k),
         Command::Entry(_, _) => p.stage == 3,
         Command::Mark(a, _) => (p.stage == 4) & ((p.count == 0) | (p.last < a)),
         Command::Name(a, _) => (p.stage == 4) & (p.nameable & (a == p.last)),
@@ -58,14 +58,14 @@ fn printable(text: u64) -> bool
     true
 }
 
-fn window_holds(k: Kind, w: Window) -> bool
+fn window_holds(k: WindowKind, w: Window) -> bool
     ensures { λ r. ⌜ r ≡ rangesHold (Command.Window k w) ⌝ }
 {
     let n = w.length as u32;
     match k {
-        Kind::Code => between(1, 4096, n),
-        Kind::Data => between(0, 8192, n),
-        Kind::Stack => between(2, 1024, n),
+        WindowKind::Code => between(1, 4096, n),
+        WindowKind::Data => between(0, 8192, n),
+        WindowKind::Stack => between(2, 1024, n),
     }
 }
 
@@ -91,13 +91,13 @@ fn ranges_hold(c: Command) -> bool
     }
 }
 
-fn start_holds(k: Kind, start: u16) -> bool
+fn start_holds(k: WindowKind, start: u16) -> bool
     ensures { λ r. ⌜ r ≡ startHolds k start ⌝ }
 {
     match k {
-        Kind::Code => start != 0,
-        Kind::Data => true,
-        Kind::Stack => start != 0,
+        WindowKind::Code => start != 0,
+        WindowKind::Data => true,
+        WindowKind::Stack => start != 0,
     }
 }
 
@@ -150,8 +150,8 @@ fn inside(h: Header, c: Command) -> bool
 }
 
 // The first cause that applies, or 0.
-pub fn cause(p: Prefix, c: Command) -> u8
-    ensures { λ r. ⌜ r ≡ causeOf p c ⌝ }
+pub fn cause(p: Progress, c: Command) -> u8
+    ensures { λ r. ⌜ r ≡ commandCauseOf p c ⌝ }
 {
     let h = p.header;
     if !in_order(p, c) {

@@ -1,11 +1,11 @@
 // The bytes of a command.
 ghost use mathlib.Core.Path.{_≡_};
 ghost use Prim.Native.Nat.{_/_, _%_};
-ghost use Rattle.commands.specs.Bytes.{byteOfKind, encodeOf, widthOf, padded};
+ghost use Rattle.commands.specs.Bytes.{windowByteOf, encodeOf, widthOf, padded};
 use crate::command::Claim;
 use crate::command::Command;
-use crate::command::Kind;
-use crate::command::Window;
+use crate::header::Window;
+use crate::header::WindowKind;
 use registers::Cycles;
 
 // The first `width` bytes are the command's, the others zero.
@@ -14,13 +14,13 @@ pub struct Encoded {
     pub width: usize,
 }
 
-fn kind_byte(k: Kind) -> u8
-    ensures { λ r. ⌜ r ≡ byteOfKind k ⌝ }
+fn window_byte(k: WindowKind) -> u8
+    ensures { λ r. ⌜ r ≡ windowByteOf k ⌝ }
 {
     match k {
-        Kind::Code => 1,
-        Kind::Data => 2,
-        Kind::Stack => 3,
+        WindowKind::Code => 1,
+        WindowKind::Data => 2,
+        WindowKind::Stack => 3,
     }
 }
 
@@ -36,10 +36,10 @@ fn low(v: u16) -> u8
     (v % 256) as u8
 }
 
-fn window(k: Kind, w: Window) -> [u8; 11]
+fn window(k: WindowKind, w: Window) -> [u8; 11]
     ensures { λ r. ⌜ r ≡ padded (encodeOf (Command.Window k w)) ⌝ }
 {
-    let b = kind_byte(k);
+    let b = window_byte(k);
     [
         b,
         high(w.start),

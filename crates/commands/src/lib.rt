@@ -1,9 +1,10 @@
-// An inner crate: the ticket's commands one by one, as values, and the causes for which one is refused after those before it. Their bytes are read and
-// written in the crate above, and the ticket as a whole in the one above that.
-pub mod admit; // a command after those before it
-mod cause; // document 01's causes 3 to 7
-pub mod command; // the commands and what they hold
-pub mod prefix; // what the commands so far leave for the next
-pub mod decode; // a command of bytes
-pub mod encode; // the bytes of a command
+// An inner crate: the commands of a ticket one by one, as values and as bytes, and the causes for which one is refused after those before it
+// (document 01, "The ticket"). The ticket as a whole is read and written in the crate above.
+pub mod header; // windows, and what $01 to $04 say
+pub mod command; // the commands
 mod number; // numbers of two, four and eight bytes
+pub mod parse; // a command of bytes
+pub mod encode; // the bytes of a command
+pub mod progress; // what the commands so far leave for the next
+mod cause; // document 01's causes 3 to 7
+pub mod admit; // a command after those before it

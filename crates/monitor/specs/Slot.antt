@@ -2,8 +2,8 @@
 -- Assumes nothing.
 use Prim.Native.Nat.{ℕ, _+_}
 use mathlib.Core.List.{List, _++_}
-use Rattle.commands.specs.declared.command.Window.{Window}
-use Rattle.commands.specs.declared.prefix.Header.{Header}
+use Rattle.commands.specs.declared.header.Window.{Window}
+use Rattle.commands.specs.declared.header.Header.{Header}
 use Rattle.verdict.specs.declared.Certificate.{Certificate}
 use Rattle.monitor.specs.BigEndian.{wordBytes, longBytes, wordIn, longIn}
 

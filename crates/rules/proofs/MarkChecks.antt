@@ -8,8 +8,8 @@ use mathlib.Core.List.{List, [], _∷_}
 use mathlib.Core.Option.{Option, none, some}
 use borrow.Author.Tests.{leb-true, eqb-true}
 use Rattle.commands.specs.declared.command.Claim.{Claim}
-use Rattle.commands.specs.declared.command.Window.{Window}
-use Rattle.commands.specs.Cause.{holds}
+use Rattle.commands.specs.declared.header.Window.{Window}
+use Rattle.commands.specs.Header.{holds}
 use Rattle.commands.proofs.Every.{first}
 use Rattle.ticket.specs.declared.fields.Mark.{Mark}
 use Rattle.ticket.specs.Fields.{Fields}

@@ -11,7 +11,7 @@ use Rattle.opcodes.specs.Tables.{costAt, lengthAt}
 use Rattle.opcodes.specs.Decode.{Bytes, placeIn}
 use Rattle.opcodes.proofs.Local.{local}
 use Rattle.opcodes.proofs.Says.{none-there}
-use Rattle.commands.specs.declared.command.Window.{Window}
+use Rattle.commands.specs.declared.header.Window.{Window}
 use Rattle.stepper.specs.Step.{fetched}
 use Rattle.rules.specs.Shape.{nothing, shapeOf, instructionSize}
 use Rattle.rules.specs.Marks.{imageFrom}

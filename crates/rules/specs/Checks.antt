@@ -6,7 +6,7 @@ use mathlib.Core.List.{List, [], _∷_, _++_}
 use mathlib.Core.Option.{Option, none, some}
 use lib.Dec.{eqb, leb}
 use lib.ListN.{length}
-use Rattle.commands.specs.Cause.{pastOf, holds}
+use Rattle.commands.specs.Header.{pastOf, holds}
 use Rattle.commands.specs.declared.command.Claim.{Claim}
 use Rattle.ticket.specs.declared.fields.Mark.{Mark}
 use Rattle.ticket.specs.Fields.{Fields, Outcome, read, refused}

@@ -8,7 +8,7 @@ use lib.Dec.{eqb}
 use lib.ListN.{getD}
 use Rattle.opcodes.specs.Decode.{Bytes}
 use Rattle.commands.specs.declared.command.Claim.{Claim}
-use Rattle.commands.specs.declared.command.Window.{Window}
+use Rattle.commands.specs.declared.header.Window.{Window}
 use Rattle.ticket.specs.declared.fields.Mark.{Mark}
 
 -- the claim at an address, or none

@@ -11,16 +11,17 @@ use borrow.Author.Tests.{le-leb, lt-leb}
 use Rattle.commands.specs.declared.command.Command.{Command}
 use Rattle.commands.specs.declared.command.Command.the-variants as Command
 use Rattle.answers.specs.declared.Refusal.{Refusal}
-use Rattle.commands.specs.declared.prefix.Prefix.{Prefix}
+use Rattle.commands.specs.declared.progress.Progress.{Progress}
 use Rattle.commands.specs.declared.admit.Admitted.{Admitted}
 use Rattle.commands.specs.declared.admit.Admitted.the-variants.{Refused, Next}
-use Rattle.commands.specs.Prefix.{startOf}
-use Rattle.commands.specs.Admit.{thenOf, SoundSoFar}
+use Rattle.commands.specs.Progress.{initialProgress}
+use Rattle.commands.specs.Admit.{thenOf}
+use Rattle.commands.specs.inner.Sound.{SoundSoFar}
 use Rattle.commands.proofs.Coding.{length-encode, after-at}
 use Rattle.commands.proofs.Sound.{sound-then}
 use Rattle.ticket.specs.declared.fields.Mark.{Mark}
 use Rattle.ticket.specs.declared.answer.Written.the-variants as Written
-use Rattle.ticket.specs.Fields.{Fields, blankMark, placeOf, listed}
+use Rattle.ticket.specs.Fields.{Fields, blankMark, markIndex, listed}
 use Rattle.ticket.specs.Write.{headerCommands, commandsAt, markCommands, commandsOf, encodeAll, bytesOf, allThen, checkOf, writeOf, outputOf}
 use Rattle.lists.specs.inner.Splice.{spliced}
 use Rattle.ticket.proofs.Stage.{by-admission}
@@ -35,28 +36,28 @@ pub sound-all : (a : Admitted) (cs : List Command) → SoundSoFar a → SoundSoF
 sound-all a [] s = s
 sound-all a (c ∷ cs) s = sound-all (thenOf a c) cs (sound-then a c s)
 
-pub all-listed : (a : Admitted) (ms : List Mark) (i : ℕ) → allThen a (markCommands (listed ms (i + 1))) ≡ allThen (allThen a (markCommands (listed ms i))) (commandsAt (getD ms (placeOf i) blankMark))
+pub all-listed : (a : Admitted) (ms : List Mark) (i : ℕ) → allThen a (markCommands (listed ms (i + 1))) ≡ allThen (allThen a (markCommands (listed ms i))) (commandsAt (getD ms (markIndex i) blankMark))
 all-listed a ms i = rw (add-one, commands-snoc, all-append)
 
-pub all-checked : (f : Fields) → checkOf f ≡ thenOf (allThen (allThen (Next startOf) (headerCommands (f .header))) (markCommands (f .marks))) Command.End
+pub all-checked : (f : Fields) → checkOf f ≡ thenOf (allThen (allThen (Next initialProgress) (headerCommands (f .header))) (markCommands (f .marks))) Command.End
 unfolding checkOf commandsOf
 all-checked f = all-append _ (markCommands (f .marks)) (Command.End ∷ [])
 
 -- ---- the offset after commands that are admitted
 
-pub not-next : {r : Refusal} {q : Prefix} → Refused r ≡ Next q → ⊥
+pub not-next : {r : Refusal} {q : Progress} → Refused r ≡ Next q → ⊥
 not-next e = let z : _≡_ {A = ℕ} 0 1 = cc in omega arith
 
-all-at : (cs : List Command) (p q : Prefix) → allThen (Next p) cs ≡ Next q → q .at ≡ p .at + length (encodeAll cs)
+all-at : (cs : List Command) (p q : Progress) → allThen (Next p) cs ≡ Next q → q .at ≡ p .at + length (encodeAll cs)
 all-at [] p q e = let same : p .at ≡ q .at = cc in omega arith
 all-at (c ∷ cs) p q e =
     by-admission p c (λ a. allThen a cs ≡ Next q → q .at ≡ p .at + length (encodeAll (c ∷ cs)))
     (λ r n. absurd (not-next (sym (refused-stays r cs) ∙ n)))
     (λ h n. simp length-append (omega (arith, all-at cs _ q n, after-at p c, length-encode c))) e
 
-pub checked-at : (f : Fields) (p : Prefix) → checkOf f ≡ Next p → p .at ≡ length (bytesOf f)
+pub checked-at : (f : Fields) (p : Progress) → checkOf f ≡ Next p → p .at ≡ length (bytesOf f)
 unfolding checkOf bytesOf
-checked-at f p e = omega (arith, all-at (commandsOf f) startOf p e)
+checked-at f p e = omega (arith, all-at (commandsOf f) initialProgress p e)
 
 -- ---- what the writer answers, and the output afterwards
 
@@ -65,7 +66,7 @@ module _ (f : Fields) (out : List ℕ) where
   unfolding writeOf outputOf
   write-refused r e = simp e (refl, refl)
 
-  module _ (p : Prefix) (e : checkOf f ≡ Next p) where
+  module _ (p : Progress) (e : checkOf f ≡ Next p) where
     pub write-short : length out < p .at → (Written.Refused (record { number = 24; place = p .at }) ≡ writeOf f (length out)) × (out ≡ outputOf f out)
     unfolding writeOf outputOf
     write-short short = simp (e, ← checked-at f p e, lt-leb _ _ short) (refl, refl)

@@ -10,32 +10,32 @@ use lib.ListN.{length, drop}
 use borrow.Author.Tests.{eqb-true}
 use Rattle.commands.specs.declared.command.Command.{Command}
 use Rattle.answers.specs.declared.Refusal.{Refusal}
-use Rattle.commands.specs.declared.command.Decoded.the-variants.{Found}
-use Rattle.commands.specs.declared.prefix.Prefix.{Prefix}
-use Rattle.commands.specs.Bytes.{decodeOf, widthOf}
-use Rattle.commands.specs.Cause.{causeOf}
-use Rattle.commands.specs.Prefix.{startOf, afterOf}
+use Rattle.commands.specs.declared.parse.Parsed.the-variants.{Found}
+use Rattle.commands.specs.declared.progress.Progress.{Progress}
+use Rattle.commands.specs.Bytes.{parseOf, widthOf}
+use Rattle.commands.specs.Cause.{commandCauseOf}
+use Rattle.commands.specs.Progress.{initialProgress, afterOf}
 use Rattle.ticket.specs.declared.fields.Mark.{Mark}
 use Rattle.ticket.specs.declared.reader.Turn.{Turn}
 use Rattle.ticket.specs.declared.reader.Turn.the-variants as Turn
 use Rattle.ticket.specs.Fields.{Fields, read, refused, marksWith, inFileOrder}
-use Rattle.ticket.specs.Read.{turnOf, endOf, Rest, onward, ifEnded, readFrom, readOf}
+use Rattle.ticket.specs.Read.{nextCommandOf, endOf, Rest, readOnward, ifEnded, readFrom, readOf}
 use Rattle.ticket.proofs.Turned.{turned}
 
--- from a prefix and its marks, over some bytes, by some commands, to the fields
-pub data Course : Prefix → List Mark → List ℕ → List Command → Fields → Type 0 where
-  ended : {p : Prefix} {ms : List Mark} → p .stage ≡ 5 → Course p ms [] [] (record { header = p .header; marks = inFileOrder ms })
-  goes : {p : Prefix} {ms : List Mark} {s : List ℕ} {c : Command} {cs : List Command} {f : Fields} → decodeOf s ≡ Found c → causeOf p c ≡ 0
+-- from progress and its marks, over some bytes, by some commands, to the fields
+pub data Course : Progress → List Mark → List ℕ → List Command → Fields → Type 0 where
+  ended : {p : Progress} {ms : List Mark} → p .stage ≡ 5 → Course p ms [] [] (record { header = p .header; marks = inFileOrder ms })
+  goes : {p : Progress} {ms : List Mark} {s : List ℕ} {c : Command} {cs : List Command} {f : Fields} → parseOf s ≡ Found c → commandCauseOf p c ≡ 0
       → Course (afterOf p c) (marksWith ms c) (drop (widthOf c) s) cs f → Course p ms s (c ∷ cs) f
 
-abbrev pub Commanded : Prefix → List Mark → List ℕ → Fields → Type 0
+abbrev pub Commanded : Progress → List Mark → List ℕ → Fields → Type 0
 Commanded p ms s f = (cs : List Command) × Course p ms s cs f
 
 unread : {r : Refusal} {f : Fields} → refused r ≡ read f → ⊥
 unread e = let z : _≡_ {A = ℕ} 0 1 = cc in omega arith
 
 -- one turn, with what is known of the rest
-module _ (p : Prefix) (ms : List Mark) (f : Fields) (rest : Rest) (known : (q : Prefix) (ks : List Mark) (t : List ℕ) → rest q ks t ≡ read f → Commanded q ks t f) where
+module _ (p : Progress) (ms : List Mark) (f : Fields) (rest : Rest) (known : (q : Progress) (ks : List Mark) (t : List ℕ) → rest q ks t ≡ read f → Commanded q ks t f) where
   at-end : p .stage ≡ 5 → (s : List ℕ) → endOf p ms s ≡ read f → Commanded p ms s f
   at-end e [] r =
       let same : f ≡ record { header = p .header; marks = inFileOrder ms } = cc in
@@ -43,7 +43,7 @@ module _ (p : Prefix) (ms : List Mark) (f : Fields) (rest : Rest) (known : (q : 
   at-end e (b ∷ s) r = absurd (unread r)
 
   module _ (s : List ℕ) where
-    at-command : (t : Turn) → turnOf s p ≡ t → onward t ms s rest ≡ read f → Commanded p ms s f
+    at-command : (t : Turn) → nextCommandOf s p ≡ t → readOnward t ms s rest ≡ read f → Commanded p ms s f
     at-command (Turn.Refused x) e r = absurd (unread r)
     at-command (Turn.Next q c) e r =
         let t = turned s p q c e in
@@ -54,11 +54,11 @@ module _ (p : Prefix) (ms : List Mark) (f : Fields) (rest : Rest) (known : (q : 
     at-turn true e r = at-end (eqb-true _ _ e) s r
     at-turn false e r = at-command _ refl r
 
-commanded : (n : ℕ) (f : Fields) (p : Prefix) (ms : List Mark) (s : List ℕ) → readFrom n p ms s ≡ read f → Commanded p ms s f
+commanded : (n : ℕ) (f : Fields) (p : Progress) (ms : List Mark) (s : List ℕ) → readFrom n p ms s ≡ read f → Commanded p ms s f
 unfolding readFrom
 commanded zero f p ms s r = absurd (unread r)
 commanded (suc n) f p ms s r = at-turn p ms f (readFrom n) (commanded n f) s _ refl r
 
-pub course : (s : List ℕ) (f : Fields) → readOf s ≡ read f → Commanded startOf [] s f
+pub course : (s : List ℕ) (f : Fields) → readOf s ≡ read f → Commanded initialProgress [] s f
 unfolding readOf
-course s f r = commanded (suc (length s)) f startOf [] s r
+course s f r = commanded (suc (length s)) f initialProgress [] s r

@@ -5,21 +5,21 @@ use native.Mathlib.Numerals.{add-one}
 use mathlib.Core.List.{List, _++_}
 use lib.ListN.{getD}
 use Rattle.registers.specs.declared.Cycles.{Cycles}
-use Rattle.commands.specs.declared.command.Kind.{Kind}
-use Rattle.commands.specs.declared.command.Kind.the-variants.{Code, Data, Stack}
-use Rattle.commands.specs.declared.command.Window.{Window}
+use Rattle.commands.specs.declared.header.WindowKind.{WindowKind}
+use Rattle.commands.specs.declared.header.WindowKind.the-variants.{Code, Data, Stack}
+use Rattle.commands.specs.declared.header.Window.{Window}
 use Rattle.commands.specs.declared.command.Command.{Command}
 use Rattle.commands.specs.declared.command.Command.the-variants as Command
 use Rattle.commands.specs.Every.{none, more}
 use Rattle.commands.specs.Fits.{Fits}
 use Rattle.commands.specs.Fits.FitsRow.{none as no-operand, more as operand}
 use Rattle.ticket.specs.declared.fields.Mark.{Mark}
-use Rattle.ticket.specs.Fields.{Fields, blankMark, placeOf, listed}
+use Rattle.ticket.specs.Fields.{Fields, blankMark, markIndex, listed}
 use Rattle.ticket.specs.Write.{headerCommands, commandsAt, markCommands, commandsOf}
 use Rattle.ticket.specs.RoundTrip.{AllFit, FitsFields}
 use Rattle.ticket.proofs.Snoc.{commands-snoc}
 
-pub fits-window : (k : Kind) (w : Window) → w .start < 65536 → w .length < 65536 → Fits (Command.Window k w)
+pub fits-window : (k : WindowKind) (w : Window) → w .start < 65536 → w .length < 65536 → Fits (Command.Window k w)
 fits-window Code w s l = operand s (operand l no-operand)
 fits-window Data w s l = operand s (operand l no-operand)
 fits-window Stack w s l = operand s (operand l no-operand)
@@ -37,7 +37,7 @@ fit-append : {cs ds : List Command} → AllFit cs → AllFit ds → AllFit (cs +
 fit-append none fits = fits
 fit-append (more fit more-fit) fits = more fit (fit-append more-fit fits)
 
-pub fit-listed : (ms : List Mark) (i : ℕ) → AllFit (markCommands (listed ms i)) → AllFit (commandsAt (getD ms (placeOf i) blankMark)) → AllFit (markCommands (listed ms (i + 1)))
+pub fit-listed : (ms : List Mark) (i : ℕ) → AllFit (markCommands (listed ms i)) → AllFit (commandsAt (getD ms (markIndex i) blankMark)) → AllFit (markCommands (listed ms (i + 1)))
 fit-listed ms i fits fit = rw (add-one, commands-snoc) (fit-append fits fit)
 
 pub fit-ticket : (f : Fields) → AllFit (headerCommands (f .header)) → AllFit (markCommands (f .marks)) → FitsFields f

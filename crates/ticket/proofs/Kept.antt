@@ -6,9 +6,10 @@ use mathlib.Core.List.{List, [], _∷_, _++_, append-nil, append-assoc}
 use Rattle.commands.specs.declared.command.Claim.{Claim}
 use Rattle.commands.specs.declared.command.Command.{Command}
 use Rattle.commands.specs.declared.command.Command.the-variants as Command
-use Rattle.commands.specs.declared.prefix.Header.{Header}
-use Rattle.commands.specs.declared.prefix.Prefix.{Prefix}
-use Rattle.commands.specs.Prefix.{blankHeader, withWindow, withEntry, afterOf}
+use Rattle.commands.specs.declared.header.Header.{Header}
+use Rattle.commands.specs.declared.progress.Progress.{Progress}
+use Rattle.commands.specs.Progress.{afterOf}
+use Rattle.commands.specs.Header.{blankHeader, withWindow, withEntry}
 use Rattle.ticket.specs.declared.fields.Name.{Name}
 use Rattle.ticket.specs.declared.fields.Name.the-variants.{Absent, Text}
 use Rattle.ticket.specs.declared.fields.Mark.{Mark}
@@ -22,7 +23,7 @@ headerWith h (Command.Mark a k) = h
 headerWith h (Command.Name a t) = h
 headerWith h Command.End = h
 
-pub header-after : (p : Prefix) (c : Command) → afterOf p c .header ≡ headerWith (p .header) c
+pub header-after : (p : Progress) (c : Command) → afterOf p c .header ≡ headerWith (p .header) c
 unfolding afterOf
 header-after p (Command.Window k w) = refl
 header-after p (Command.Entry a l) = refl

@@ -1,6 +1,6 @@
 pub mod Snoc
 pub mod Fitting
-pub mod Place
+pub mod MarkIndex
 pub mod Stage
 pub mod Step
 pub mod Kept

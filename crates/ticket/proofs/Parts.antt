@@ -8,12 +8,12 @@ use mathlib.Core.List.{List, [], _∷_, _++_, append-nil, append-assoc}
 use lib.ListN.{length, getD, length-append}
 use Rattle.commands.specs.declared.command.Command.{Command}
 use Rattle.commands.specs.declared.command.Command.the-variants as Command
-use Rattle.commands.specs.declared.prefix.Header.{Header}
+use Rattle.commands.specs.declared.header.Header.{Header}
 use Rattle.commands.specs.Bytes.{encodeOf}
 use Rattle.commands.proofs.Coding.{length-encode, width-positive}
 use Rattle.ticket.specs.declared.fields.Mark.{Mark}
 use Rattle.ticket.specs.declared.fields.Ticket.{Ticket}
-use Rattle.ticket.specs.Fields.{blankMark, placeOf, listed, fieldsOf}
+use Rattle.ticket.specs.Fields.{blankMark, markIndex, listed, fieldsOf}
 use Rattle.ticket.specs.Write.{headerCommands, commandsAt, markCommands, commandsOf, encodeAll, bytesOf}
 use Rattle.ticket.proofs.Snoc.{commands-snoc}
 
@@ -29,8 +29,8 @@ length-header h = refl
 abbrev pub marksBytes : List Mark → ℕ → List ℕ
 marksBytes ms n = encodeAll (markCommands (listed ms n))
 
-pub marks-more : (ms : List Mark) (i : ℕ) {j : ℕ} → j ≡ placeOf i → marksBytes ms (suc i) ≡ marksBytes ms i ++ encodeAll (commandsAt (getD ms j blankMark))
-marks-more ms i e = rw (e, commands-snoc (listed ms i)) (encode-append (markCommands (listed ms i)) (commandsAt (getD ms (placeOf i) blankMark)))
+pub marks-more : (ms : List Mark) (i : ℕ) {j : ℕ} → j ≡ markIndex i → marksBytes ms (suc i) ≡ marksBytes ms i ++ encodeAll (commandsAt (getD ms j blankMark))
+marks-more ms i e = rw (e, commands-snoc (listed ms i)) (encode-append (markCommands (listed ms i)) (commandsAt (getD ms (markIndex i) blankMark)))
 
 marks-longer : (ms : List Mark) (n k : ℕ) → length (marksBytes ms n) ≤ length (marksBytes ms (n + k))
 marks-longer ms n zero = rw add-zero (omega arith)
@@ -55,5 +55,5 @@ module _ (t : Ticket) where
       rw ticket-parts (omega (arith, length-append (header ++ marks) (encodeOf Command.End), length-append header marks, length-header (t .header), length-encode Command.End, width-positive Command.End))
 
   -- and for one mark more, if there is one
-  pub mark-room : (i : ℕ) {j : ℕ} → j ≡ placeOf i → i < t .count → 22 + length (marksBytes (t .marks) i) + length (encodeAll (commandsAt (getD (t .marks) j blankMark))) ≤ length (bytesOf (fieldsOf t))
+  pub mark-room : (i : ℕ) {j : ℕ} → j ≡ markIndex i → i < t .count → 22 + length (marksBytes (t .marks) i) + length (encodeAll (commandsAt (getD (t .marks) j blankMark))) ≤ length (bytesOf (fieldsOf t))
   mark-room i {j} e h = omega (arith, end-room (suc i) h, ap length (marks-more (t .marks) i e), length-append (marksBytes (t .marks) i) (encodeAll (commandsAt (getD (t .marks) j blankMark))))

@@ -1,4 +1,4 @@
--- Where the reading of some bytes stands: the marks in the array, the commands of the prefix behind it, and the turns that are left.
+-- Where the reading of some bytes stands: the marks in the array, the commands that led there, and the turns that are left.
 -- Assumes nothing.
 use Prim.Native.Nat.{ℕ, zero, suc, _+_, _-_, _≤_, _<_}
 use native.Mathlib.Numerals.{unary-clauses}
@@ -11,24 +11,24 @@ use lib.Seq.{drop-drop, drop-cons}
 use borrow.Author.Tests.{ne-eqb}
 use Rattle.commands.specs.declared.command.Command.{Command}
 use Rattle.answers.specs.declared.Refusal.{Refusal}
-use Rattle.commands.specs.declared.command.Decoded.the-variants.{Found}
-use Rattle.commands.specs.declared.prefix.Prefix.{Prefix}
-use Rattle.commands.specs.Bytes.{decodeOf, widthOf}
-use Rattle.commands.specs.Cause.{causeOf}
-use Rattle.commands.specs.Prefix.{startOf, afterOf}
+use Rattle.commands.specs.declared.parse.Parsed.the-variants.{Found}
+use Rattle.commands.specs.declared.progress.Progress.{Progress}
+use Rattle.commands.specs.Bytes.{parseOf, widthOf}
+use Rattle.commands.specs.Cause.{commandCauseOf}
+use Rattle.commands.specs.Progress.{initialProgress, afterOf}
 use Rattle.commands.proofs.Causes.{allowed}
-use Rattle.commands.proofs.Coding.{decode-room, width-positive, after-at}
+use Rattle.commands.proofs.Coding.{parse-room, width-positive, after-at}
 use Rattle.commands.proofs.Sound.{bounds}
 use Rattle.ticket.specs.declared.answer.Answer.the-variants as Answer
 use Rattle.ticket.specs.declared.fields.Mark.{Mark}
 use Rattle.ticket.specs.declared.reader.Turn.the-variants as Turn
 use Rattle.ticket.specs.Fields.{refused, blankMark, enteredOf, marksWith, inFileOrder, ticketOf, readingOf}
-use Rattle.ticket.specs.Read.{refusal, turnOf, endOf, onward, ifEnded, readFrom, readOf}
+use Rattle.ticket.specs.Read.{refusal, nextCommandOf, endOf, readOnward, ifEnded, readFrom, readOf}
 use Rattle.ticket.proofs.Slots.{filled, entered}
 use Rattle.ticket.proofs.SoFar.{Consistent, consistent-start, consistent-next, length-ordered}
 use Rattle.ticket.proofs.Turned.{turned}
 
-pub record Reached (s : List ℕ) (array : List Mark) (p : Prefix) : Type 0 where
+pub record ReadState (s : List ℕ) (array : List Mark) (p : Progress) : Type 0 where
   pub marks : List Mark  -- the latest first
   pub left : ℕ
   pub kept : Consistent p marks
@@ -37,7 +37,7 @@ pub record Reached (s : List ℕ) (array : List Mark) (p : Prefix) : Type 0 wher
   pub rest : readOf s ≡ readFrom left p marks (drop (p .at) s)
   pub held : array ≡ filled 4096 (inFileOrder marks)
 
-pub reached-start : (s : List ℕ) → Reached s (replicate 4096 blankMark) startOf
+pub reached-start : (s : List ℕ) → ReadState s (replicate 4096 blankMark) initialProgress
 unfolding readOf filled
 reached-start s =
     record {
@@ -50,35 +50,35 @@ reached-start s =
       held = refl;
     }
 
-one-turn : (n : ℕ) (p : Prefix) (ms : List Mark) (s : List ℕ) → 0 < n → readFrom n p ms s ≡ ifEnded (eqb (p .stage) 5) p ms s (readFrom (n - 1))
+one-turn : (n : ℕ) (p : Progress) (ms : List Mark) (s : List ℕ) → 0 < n → readFrom n p ms s ≡ ifEnded (eqb (p .stage) 5) p ms s (readFrom (n - 1))
 unfolding readFrom
 one-turn zero p ms s l = absurd (omega arith)
 one-turn (suc n) p ms s l = simp unary-clauses
 
-module _ (s : List ℕ) (array : List Mark) (p : Prefix) (h : Reached s array p) where
+module _ (s : List ℕ) (array : List Mark) (p : Progress) (h : ReadState s array p) where
   turn : readOf s ≡ ifEnded (eqb (p .stage) 5) p (h .marks) (drop (p .at) s) (readFrom (h .left - 1))
   turn = h .rest ∙ one-turn (h .left) p (h .marks) (drop (p .at) s) (omega arith)
 
   -- before the end: one turn more
   module _ (go : p .stage ≡ 5 → ⊥) where
-    read-on : readOf s ≡ onward (turnOf (drop (p .at) s) p) (h .marks) (drop (p .at) s) (readFrom (h .left - 1))
+    read-on : readOf s ≡ readOnward (nextCommandOf (drop (p .at) s) p) (h .marks) (drop (p .at) s) (readFrom (h .left - 1))
     read-on = simp (ne-eqb (p .stage) 5 go) at turn
 
-    pub reading-refused : (r : Refusal) → turnOf (drop (p .at) s) p ≡ Turn.Refused r → readOf s ≡ refused r
+    pub reading-refused : (r : Refusal) → nextCommandOf (drop (p .at) s) p ≡ Turn.Refused r → readOf s ≡ refused r
     reading-refused r e = rw e at read-on
 
-    module _ (c : Command) (found : decodeOf (drop (p .at) s) ≡ Found c) where
+    module _ (c : Command) (found : parseOf (drop (p .at) s) ≡ Found c) where
       moved : (p .at < afterOf p c .at) × (afterOf p c .at ≤ length s)
       moved =
           omega (
             arith,
             after-at p c,
-            decode-room (drop (p .at) s) c found,
+            parse-room (drop (p .at) s) c found,
             length-drop (p .at) s,
             width-positive c,
           )
 
-      reached-after : (d : Mark) → causeOf p c ≡ 0 → turnOf (drop (p .at) s) p ≡ Turn.Next (afterOf p c) c → Reached s (set array (afterOf p c .count - 1) (enteredOf (getD array (afterOf p c .count - 1) d) c)) (afterOf p c)
+      reached-after : (d : Mark) → commandCauseOf p c ≡ 0 → nextCommandOf (drop (p .at) s) p ≡ Turn.Next (afterOf p c) c → ReadState s (set array (afterOf p c .count - 1) (enteredOf (getD array (afterOf p c .count - 1) d) c)) (afterOf p c)
       reached-after d free e =
           let next = consistent-next p (h .marks) (h .kept) c free in
           let on : drop (widthOf c) (drop (p .at) s) ≡ drop (afterOf p c .at) s = rw (after-at p c) (drop-drop (widthOf c) (p .at) s) in
@@ -92,8 +92,8 @@ module _ (s : List ℕ) (array : List Mark) (p : Prefix) (h : Reached s array p)
             held = rw (h .held) (entered 4096 d p (h .marks) (h .kept) c (allowed p c free .ordered) (bounds (next .sound) .0));
           }
 
-    module _ (q : Prefix) (c : Command) (e : turnOf (drop (p .at) s) p ≡ Turn.Next q c) where
-      pub reached-next : (d : Mark) → Reached s (set array (q .count - 1) (enteredOf (getD array (q .count - 1) d) c)) q
+    module _ (q : Progress) (c : Command) (e : nextCommandOf (drop (p .at) s) p ≡ Turn.Next q c) where
+      pub reached-next : (d : Mark) → ReadState s (set array (q .count - 1) (enteredOf (getD array (q .count - 1) d) c)) q
       reached-next d =
           let t = turned (drop (p .at) s) p q c e in
           rw (t .next) (reached-after c (t .found) d (t .free) (rw (t .next) at e))

@@ -10,11 +10,11 @@ use lib.ListN.{length, length-append}
 use Rattle.commands.specs.declared.command.Command.{Command}
 use Rattle.commands.specs.declared.command.Command.the-variants as Command
 use Rattle.answers.specs.declared.Refusal.{Refusal}
-use Rattle.commands.specs.declared.prefix.Prefix.{Prefix}
+use Rattle.commands.specs.declared.progress.Progress.{Progress}
 use Rattle.commands.specs.declared.admit.Admitted.the-variants.{Refused, Next}
 use Rattle.commands.specs.Every.{none, more}
 use Rattle.commands.specs.Bytes.{encodeOf}
-use Rattle.commands.specs.Prefix.{startOf}
+use Rattle.commands.specs.Progress.{initialProgress}
 use Rattle.commands.proofs.Coding.{length-encode, width-positive}
 use Rattle.ticket.specs.declared.fields.Name.{Name}
 use Rattle.ticket.specs.declared.fields.Name.the-variants.{Absent, Text}
@@ -53,7 +53,7 @@ shorter : (c : Command) (s : List ℕ) (n : ℕ) → length (encodeOf c ++ s) < 
 shorter c s n l = omega (arith, length-append (encodeOf c) s, length-encode c, width-positive c)
 
 -- every command has a byte or more, so more turns than bytes are enough
-read-all : {b : Bool} {cs : List Command} (n : ℕ) (p : Prefix) (ms : List Mark) → Ended b cs → AllFit cs → eqb (p .stage) 5 ≡ b → length (encodeAll cs) < n → readFrom n p ms (encodeAll cs) ≡ answered (allThen (Next p) cs) (keptOf (p .header) ms cs)
+read-all : {b : Bool} {cs : List Command} (n : ℕ) (p : Progress) (ms : List Mark) → Ended b cs → AllFit cs → eqb (p .stage) 5 ≡ b → length (encodeAll cs) < n → readFrom n p ms (encodeAll cs) ≡ answered (allThen (Next p) cs) (keptOf (p .header) ms cs)
 unfolding readFrom
 read-all zero p ms d fits e l = absurd (omega arith)
 read-all (suc n) p ms after none e l = rw e
@@ -64,4 +64,4 @@ read-all (suc n) p ms (before {c} {cs} d) (more fit fits) e l =
 pub read-written : (f : Fields) → FitsFields f → readOf (bytesOf f) ≡ answered (checkOf f) f
 unfolding readOf bytesOf checkOf
 read-written f fits =
-    read-all _ startOf [] (ended f) fits refl (omega arith) ∙ ap (answered (checkOf f)) (kept f)
+    read-all _ initialProgress [] (ended f) fits refl (omega arith) ∙ ap (answered (checkOf f)) (kept f)

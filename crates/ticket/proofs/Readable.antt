@@ -9,12 +9,12 @@ use native.Mathlib.Omega.{arith}
 use Rattle.commands.specs.declared.command.Claim.{Claim}
 use Rattle.commands.specs.declared.command.Command.{Command}
 use Rattle.commands.specs.declared.command.Command.the-variants as Command
-use Rattle.commands.specs.declared.prefix.Header.{Header}
-use Rattle.commands.specs.declared.prefix.Prefix.{Prefix}
+use Rattle.commands.specs.declared.header.Header.{Header}
+use Rattle.commands.specs.declared.progress.Progress.{Progress}
 use Rattle.commands.specs.declared.admit.Admitted.the-variants.{Next}
 use Rattle.commands.specs.Number.{digits}
-use Rattle.commands.specs.Prefix.{startOf, markedOf, afterOf}
-use Rattle.commands.specs.Cause.{inOrder, rangesHold, edgesHold, separate, inside, causeOf}
+use Rattle.commands.specs.Progress.{initialProgress, markedOf, afterOf}
+use Rattle.commands.specs.Cause.{inOrder, rangesHold, edgesHold, separate, inside, commandCauseOf}
 use Rattle.commands.proofs.Causes.{allowed, allow}
 use Rattle.commands.proofs.Every.{first}
 use Rattle.ticket.specs.declared.fields.Name.{Name}
@@ -29,7 +29,7 @@ use Rattle.ticket.proofs.Free.{Free, free-admitted, admitted-free}
 
 ruleset tests = (true-says, and-eq-true-iff, leb-says, ltb-says, eqb-says, positive-says, after-says, apart-says)
 
-cause-says : (p : Prefix) (c : Command) → (causeOf p c ≡ 0) ↔ ((inOrder p c ≡ true) × (rangesHold c ≡ true) × (edgesHold c ≡ true) × (separate (p .header) c ≡ true) × (inside (p .header) c ≡ true))
+cause-says : (p : Progress) (c : Command) → (commandCauseOf p c ≡ 0) ↔ ((inOrder p c ≡ true) × (rangesHold c ≡ true) × (edgesHold c ≡ true) × (separate (p .header) c ≡ true) × (inside (p .header) c ≡ true))
 cause-says p c = (
   λ e. let a = allowed p c e in (a .ordered, a .ranged, a .edged, a .separated, a .placed),
   λ t. allow p c (record { ordered = t .0; ranged = t .1; edged = t .2; separated = t .3; placed = t .4 }),
@@ -38,21 +38,21 @@ cause-says p c = (
 -- ---- the header
 
 -- after the four commands of a header, of 5, 5, 5 and 7 bytes
-abbrev headed : Header → Prefix
+abbrev headed : Header → Progress
 headed h = record { at = 22; stage = 4; header = h; count = 0; last = 0; nameable = false }
 
-header-says : (h : Header) (cs : List Command) → Free startOf (headerCommands h ++ cs) ↔ (HeaderRules h × Free (headed h) cs)
+header-says : (h : Header) (cs : List Command) → Free initialProgress (headerCommands h ++ cs) ↔ (HeaderRules h × Free (headed h) cs)
 unfolding afterOf rangesHold
 header-says h cs = simp (cause-says, tests) (λ f. (search arith, f .1 .1 .1 .1), λ r. search arith)
 
 -- ---- one mark and its name, after a header and perhaps other marks
 
-module _ (p : Prefix) (e : p .stage ≡ 4) where
-  mark-says : (a : ℕ) (k : Claim) → (causeOf p (Command.Mark a k) ≡ 0) ↔ ((1 ≤ p .count → p .last < a) × ClaimRules k × In (p .header .code) a)
+module _ (p : Progress) (e : p .stage ≡ 4) where
+  mark-says : (a : ℕ) (k : Claim) → (commandCauseOf p (Command.Mark a k) ≡ 0) ↔ ((1 ≤ p .count → p .last < a) × ClaimRules k × In (p .header .code) a)
   unfolding rangesHold
   mark-says a k = simp (cause-says, tests) (λ t. search arith, λ r. search arith)
 
-  text-says : (a t : ℕ) → (causeOf (markedOf p a) (Command.Name a t) ≡ 0) ↔ Every (Between 0x20 0x7e) (digits 8 t)
+  text-says : (a t : ℕ) → (commandCauseOf (markedOf p a) (Command.Name a t) ≡ 0) ↔ Every (Between 0x20 0x7e) (digits 8 t)
   unfolding rangesHold
   text-says a t = (
     λ c. printable-says (digits 8 t) .0 (and-eq-true-iff _ true .0 (allowed (markedOf p a) (Command.Name a t) c .ranged) .0),
@@ -67,7 +67,7 @@ module _ (p : Prefix) (e : p .stage ≡ 4) where
         }),
   )
 
-  end-free : causeOf p Command.End ≡ 0
+  end-free : commandCauseOf p Command.End ≡ 0
   unfolding rangesHold
   end-free = simp (cause-says, tests) (search)
 
@@ -75,7 +75,7 @@ text-of : {t : ℕ} → NameRule (Text t) → Every (Between 0x20 0x7e) (digits 
 text-of (text r) = r
 
 -- what comes after a mark and its name depends on the header, how many marks there are and the last address
-module _ (p : Prefix) (e : p .stage ≡ 4) (a : ℕ) (cs ds : List Command) (R : Header → ℕ → ℕ → Type 0) (rest : (q : Prefix) → q .stage ≡ 4 → Free q (cs ++ ds) ↔ R (q .header) (q .count) (q .last)) where
+module _ (p : Progress) (e : p .stage ≡ 4) (a : ℕ) (cs ds : List Command) (R : Header → ℕ → ℕ → Type 0) (rest : (q : Progress) → q .stage ≡ 4 → Free q (cs ++ ds) ↔ R (q .header) (q .count) (q .last)) where
   name-says : (n : Name) → Free (markedOf p a) ((nameCommands a n ++ cs) ++ ds) ↔ (NameRule n × R (p .header) (p .count + 1) a)
   unfolding afterOf
   name-says Absent = (λ f. (absent, rest _ e .0 f), λ r. rest _ e .1 (r .1))
@@ -102,7 +102,7 @@ rising-says m (n ∷ ms) = (rising-more, λ r. Rising.more (r .0) (r .1))
 abbrev Marked : List Mark → Header → ℕ → ℕ → Type 0
 Marked ms h n l = Every (MarkRules h) ms × (1 ≤ n → Under l ms) × Rising ms
 
-marks-says : (ms : List Mark) (p : Prefix) → p .stage ≡ 4 → Free p (markCommands ms ++ (Command.End ∷ [])) ↔ Marked ms (p .header) (p .count) (p .last)
+marks-says : (ms : List Mark) (p : Progress) → p .stage ≡ 4 → Free p (markCommands ms ++ (Command.End ∷ [])) ↔ Marked ms (p .header) (p .count) (p .last)
 unfolding afterOf
 marks-says [] p e = (λ f. (Every.none, λ o. tt, Rising.none), λ r. (end-free p e, tt))
 marks-says (m ∷ ms) p e =
@@ -124,7 +124,7 @@ marks-says (m ∷ ms) p e =
 
 -- ---- the ticket
 
-readable-says : (f : Fields) → Free startOf (commandsOf f) ↔ Readable f
+readable-says : (f : Fields) → Free initialProgress (commandsOf f) ↔ Readable f
 unfolding commandsOf
 readable-says f =
     let head = header-says (f .header) (markCommands (f .marks) ++ (Command.End ∷ [])) in
@@ -136,10 +136,10 @@ readable-says f =
       λ r. head .1 (r .header-rules, marks .1 (r .mark-rules, λ o. absurd (omega arith), r .rising)),
     )
 
-pub readable-checked : (f : Fields) → Readable f → (q : Prefix) × (checkOf f ≡ Next q)
+pub readable-checked : (f : Fields) → Readable f → (q : Progress) × (checkOf f ≡ Next q)
 unfolding checkOf
-readable-checked f r = free-admitted startOf (commandsOf f) (readable-says f .1 r)
+readable-checked f r = free-admitted initialProgress (commandsOf f) (readable-says f .1 r)
 
-pub checked-readable : (f : Fields) (q : Prefix) → checkOf f ≡ Next q → Readable f
+pub checked-readable : (f : Fields) (q : Progress) → checkOf f ≡ Next q → Readable f
 unfolding checkOf
-checked-readable f q e = readable-says f .0 (admitted-free startOf q (commandsOf f) e)
+checked-readable f q e = readable-says f .0 (admitted-free initialProgress q (commandsOf f) e)

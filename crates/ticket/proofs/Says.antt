@@ -8,9 +8,10 @@ use mathlib.Core.List.{List, [], _∷_}
 use native.Mathlib.Omega.{arith}
 use lib.Dec.{eqb, ltb, leb}
 use borrow.Author.Tests.{ltb-true, ltb-false, leb-true, leb-false, not-true, eqb-true, eqb-false, lt-ltb, le-leb, lt-leb, eq-eqb, ne-eqb}
-use Rattle.commands.specs.declared.command.Window.{Window}
+use Rattle.commands.specs.declared.header.Window.{Window}
 use Rattle.commands.specs.Rows.{printable}
-use Rattle.commands.specs.Cause.{pastOf, apart}
+use Rattle.commands.specs.Cause.{apart}
+use Rattle.commands.specs.Header.{pastOf}
 use Rattle.commands.specs.Every.{Every}
 use Rattle.ticket.specs.Rules.{Between, In, Apart}
 use Rattle.commands.specs.Every.Every.{none, more}

@@ -10,9 +10,9 @@ use lib.ListN.{length, getD, set, replicate, length-append}
 use lib.Seq.{append-snoc, set-append-seam, getD-append-seam, set-getD}
 use Rattle.commands.specs.declared.command.Command.{Command}
 use Rattle.commands.specs.declared.command.Command.the-variants as Command
-use Rattle.commands.specs.declared.prefix.Prefix.{Prefix}
+use Rattle.commands.specs.declared.progress.Progress.{Progress}
 use Rattle.commands.specs.Cause.{inOrder}
-use Rattle.commands.specs.Prefix.{afterOf}
+use Rattle.commands.specs.Progress.{afterOf}
 use Rattle.ticket.specs.declared.fields.Mark.{Mark}
 use Rattle.ticket.specs.Fields.{blankMark, named, enteredOf, marksWith, inFileOrder}
 use Rattle.ticket.proofs.SoFar.{Consistent, length-ordered}
@@ -39,7 +39,7 @@ module _ (n : ℕ) (ms : List Mark) (m : Mark) where
   set-last k = simp (append-snoc, length-append) (set-append-seam ms m (replicate (n - (length ms + 1)) blankMark) k)
 
 -- the array after a command, which changes the latest mark at most: that stands at the count less 1
-module _ (n : ℕ) (d : Mark) (p : Prefix) where
+module _ (n : ℕ) (d : Mark) (p : Progress) where
   abbrev Entered : List Mark → Command → Type 0
   Entered ms c =
       let i = afterOf p c .count - 1 in

@@ -1,4 +1,4 @@
--- The commands that a prefix and its marks stand for, and what one command more makes of them.
+-- The commands that progress and its marks stand for, and what one command more makes of them.
 -- Assumes nothing.
 use mathlib.Core.Path.{_≡_, refl}
 use mathlib.Core.Bool.{true, false, cond, and-eq-true-iff}
@@ -10,13 +10,15 @@ use lib.ListN.{length, take, length-append}
 use borrow.Author.Tests.{eqb-true}
 use Rattle.commands.specs.declared.command.Command.{Command}
 use Rattle.commands.specs.declared.command.Command.the-variants as Command
-use Rattle.commands.specs.declared.command.Kind.{Kind}
-use Rattle.commands.specs.declared.command.Kind.the-variants.{Code, Data, Stack}
-use Rattle.commands.specs.declared.command.Window.{Window}
-use Rattle.commands.specs.declared.prefix.Header.{Header}
-use Rattle.commands.specs.declared.prefix.Prefix.{Prefix}
-use Rattle.commands.specs.Cause.{turnOf, inOrder, causeOf}
-use Rattle.commands.specs.Prefix.{startOf, withWindow, stagedOf, namedOf, afterOf, Sound}
+use Rattle.commands.specs.declared.header.WindowKind.{WindowKind}
+use Rattle.commands.specs.declared.header.WindowKind.the-variants.{Code, Data, Stack}
+use Rattle.commands.specs.declared.header.Window.{Window}
+use Rattle.commands.specs.declared.header.Header.{Header}
+use Rattle.commands.specs.declared.progress.Progress.{Progress}
+use Rattle.commands.specs.Cause.{stageOf, inOrder, commandCauseOf}
+use Rattle.commands.specs.Progress.{initialProgress, stagedOf, namedOf, afterOf}
+use Rattle.commands.specs.inner.Sound.{Sound}
+use Rattle.commands.specs.Header.{withWindow}
 use Rattle.ticket.proofs.Snoc.{commands-snoc}
 use Rattle.commands.proofs.Causes.{allowed}
 use Rattle.commands.proofs.Sound.{sound-start, sound-after}
@@ -27,24 +29,24 @@ use Rattle.ticket.specs.Fields.{marksWith, inFileOrder}
 use Rattle.ticket.specs.Write.{headerCommands, markCommands}
 
 -- a stage is how many of $01 to $04 there are, or 5 after the end
-abbrev pub soFar : Prefix → List Mark → List Command
+abbrev pub soFar : Progress → List Mark → List Command
 soFar p ms =
     take (p .stage) (headerCommands (p .header))
     ++ (markCommands (inFileOrder ms) ++ cond (eqb (p .stage) 5) (Command.End ∷ []) [])
 
--- ---- what a prefix says of its marks, the latest first
+-- ---- what progress says of its marks, the latest first
 
--- the latest mark has the prefix's last address, and no name where one may still come
-abbrev pub Latest : Prefix → List Mark → Type 0
+-- the latest mark has the last address, and no name where one may still come
+abbrev pub Latest : Progress → List Mark → Type 0
 Latest p [] = Unit
 Latest p (m ∷ ms) = (m .address ≡ p .last) × (p .nameable ≡ true → m .name ≡ Absent)
 
-pub record Consistent (p : Prefix) (ms : List Mark) : Type 0 where
+pub record Consistent (p : Progress) (ms : List Mark) : Type 0 where
   pub sound : Sound p
   pub counted : length ms ≡ p .count
   pub latest : Latest p ms
 
-pub consistent-start : Consistent startOf []
+pub consistent-start : Consistent initialProgress []
 consistent-start = record { sound = sound-start; counted = refl; latest = tt }
 
 -- ---- one command more is the last
@@ -53,11 +55,11 @@ empty : (ms : List Mark) → length ms ≡ 0 → ms ≡ []
 empty [] e = refl
 empty (m ∷ ms) e = absurd (omega arith)
 
-module _ (p : Prefix) where
+module _ (p : Progress) where
   no-marks : (ms : List Mark) → Consistent p ms → p .stage < 4 → ms ≡ []
   no-marks ms k h = empty ms (omega (arith, k .sound .early h))
 
-  said-window : (ms : List Mark) → Consistent p ms → (d : Kind) (w : Window) → p .stage ≡ turnOf d
+  said-window : (ms : List Mark) → Consistent p ms → (d : WindowKind) (w : Window) → p .stage ≡ stageOf d
       → soFar (stagedOf p 5 (withWindow d (p .header) w)) ms ≡ soFar p ms ++ (Command.Window d w ∷ [])
   said-window ms k Code w e = rw (no-marks ms k (omega arith), e)
   said-window ms k Data w e = rw (no-marks ms k (omega arith), e)
@@ -88,7 +90,7 @@ module _ (p : Prefix) where
       let e = eqb-true (p .stage) 4 o in
       simp (e, append-nil)
 
-  pub said-next : (ms : List Mark) → Consistent p ms → (c : Command) → causeOf p c ≡ 0 → soFar (afterOf p c) (marksWith ms c) ≡ soFar p ms ++ (c ∷ [])
+  pub said-next : (ms : List Mark) → Consistent p ms → (c : Command) → commandCauseOf p c ≡ 0 → soFar (afterOf p c) (marksWith ms c) ≡ soFar p ms ++ (c ∷ [])
   said-next ms k c e = said-step ms k c (allowed p c e .ordered)
 
 -- ---- one command more keeps it
@@ -96,7 +98,7 @@ module _ (p : Prefix) where
 no-name : {n : Name} → false ≡ true → n ≡ Absent
 no-name e = cc
 
-module _ (p : Prefix) where
+module _ (p : Progress) where
   kept-staged : (ms : List Mark) → Consistent p ms → (w : ℕ) (h : Header) → Sound (stagedOf p w h) → Consistent (stagedOf p w h) ms
   kept-staged [] k w h s = record { sound = s; counted = k .counted; latest = tt }
   kept-staged (m ∷ ms) k w h s =
@@ -121,7 +123,7 @@ module _ (p : Prefix) where
   kept-step ms k (Command.Name a t) s = kept-name ms k a t s
   kept-step ms k Command.End s = kept-staged ms k _ _ s
 
-  pub consistent-next : (ms : List Mark) → Consistent p ms → (c : Command) → causeOf p c ≡ 0 → Consistent (afterOf p c) (marksWith ms c)
+  pub consistent-next : (ms : List Mark) → Consistent p ms → (c : Command) → commandCauseOf p c ≡ 0 → Consistent (afterOf p c) (marksWith ms c)
   consistent-next ms k c e = kept-step ms k c (sound-after p c (k .sound) e)
 
 -- ---- the marks in file order

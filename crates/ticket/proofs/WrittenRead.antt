@@ -9,13 +9,13 @@ use lib.ListN.{length}
 use lib.Seq.{append-snoc}
 use borrow.Author.Tests.{le-leb}
 use Rattle.commands.specs.declared.command.Command.{Command}
-use Rattle.commands.specs.declared.prefix.Prefix.{Prefix}
+use Rattle.commands.specs.declared.progress.Progress.{Progress}
 use Rattle.commands.specs.declared.admit.Admitted.the-variants.{Next}
-use Rattle.commands.specs.Prefix.{startOf}
+use Rattle.commands.specs.Progress.{initialProgress}
 use Rattle.commands.specs.Bytes.{widthOf}
 use Rattle.commands.specs.Every.{none, more}
 use Rattle.commands.specs.Number.{AllBytes}
-use Rattle.commands.proofs.Coding.{encode-decode, fits-decoded}
+use Rattle.commands.proofs.Coding.{encode-parse, fits-parsed}
 use Rattle.commands.proofs.Digits.{bytes-drop}
 use Rattle.commands.proofs.Sound.{bounds}
 use Rattle.ticket.specs.declared.fields.Mark.{Mark}
@@ -30,25 +30,25 @@ use Rattle.ticket.proofs.Free.{Free, free-admitted}
 use Rattle.ticket.proofs.Course.{Course, course}
 use Rattle.ticket.proofs.Course.Course.{ended, goes}
 
-encoded : {p : Prefix} {ms : List Mark} {s : List ℕ} {cs : List Command} {f : Fields} → Course p ms s cs f → AllBytes s → encodeAll cs ≡ s
+encoded : {p : Progress} {ms : List Mark} {s : List ℕ} {cs : List Command} {f : Fields} → Course p ms s cs f → AllBytes s → encodeAll cs ≡ s
 encoded (ended e) a = refl
-encoded (goes {s} {c} d e r) a = rw (encoded r (bytes-drop (widthOf c) a), encode-decode s c a d)
+encoded (goes {s} {c} d e r) a = rw (encoded r (bytes-drop (widthOf c) a), encode-parse s c a d)
 
-fit : {p : Prefix} {ms : List Mark} {s : List ℕ} {cs : List Command} {f : Fields} → Course p ms s cs f → AllBytes s → AllFit cs
+fit : {p : Progress} {ms : List Mark} {s : List ℕ} {cs : List Command} {f : Fields} → Course p ms s cs f → AllBytes s → AllFit cs
 fit (ended e) a = none
-fit (goes {s} {c} d e r) a = more (fits-decoded s c a d) (fit r (bytes-drop (widthOf c) a))
+fit (goes {s} {c} d e r) a = more (fits-parsed s c a d) (fit r (bytes-drop (widthOf c) a))
 
-free : {p : Prefix} {ms : List Mark} {s : List ℕ} {cs : List Command} {f : Fields} → Course p ms s cs f → Free p cs
+free : {p : Progress} {ms : List Mark} {s : List ℕ} {cs : List Command} {f : Fields} → Course p ms s cs f → Free p cs
 free (ended e) = tt
 free (goes d e r) = (e, free r)
 
-said : {p : Prefix} {ms : List Mark} {s : List ℕ} {cs : List Command} {f : Fields} → Course p ms s cs f → Consistent p ms → soFar p ms ++ cs ≡ commandsOf f
+said : {p : Progress} {ms : List Mark} {s : List ℕ} {cs : List Command} {f : Fields} → Course p ms s cs f → Consistent p ms → soFar p ms ++ cs ≡ commandsOf f
 unfolding commandsOf
 said (ended e) k = simp (e, append-nil)
 said (goes {p} {ms} {c} {cs} d e r) k =
     sym (append-snoc (soFar p ms) c cs) ∙ rw (← said-next p ms k c e) (said r (consistent-next p ms k c e))
 
-few-marks : {p : Prefix} {ms : List Mark} {s : List ℕ} {cs : List Command} {f : Fields} → Course p ms s cs f → Consistent p ms → length (f .marks) ≤ 4096
+few-marks : {p : Progress} {ms : List Mark} {s : List ℕ} {cs : List Command} {f : Fields} → Course p ms s cs f → Consistent p ms → length (f .marks) ≤ 4096
 few-marks (ended e) k = rw length-ordered (omega (arith, k .counted, bounds (k .sound)))
 few-marks (goes {p} {ms} {c} d e r) k = few-marks r (consistent-next p ms k c e)
 
@@ -60,9 +60,9 @@ module _ (s : List ℕ) (f : Fields) (r : readOf s ≡ read f) where
   pub few : length (f .marks) ≤ 4096
   few = few-marks (course s f r .1) consistent-start
 
-  pub checks : (q : Prefix) × (checkOf f ≡ Next q)
+  pub checks : (q : Progress) × (checkOf f ≡ Next q)
   unfolding checkOf
-  checks = rw (← same-commands) (free-admitted startOf (course s f r .0) (free (course s f r .1)))
+  checks = rw (← same-commands) (free-admitted initialProgress (course s f r .0) (free (course s f r .1)))
 
 pub written-read : (s : List ℕ) (f : Fields) → AllBytes s → readOf s ≡ read f → bytesOf f ≡ s
 unfolding bytesOf

@@ -9,8 +9,8 @@ use Rattle.commands.specs.declared.command.Claim.{Claim}
 use Rattle.commands.specs.declared.command.Command.{Command}
 use Rattle.commands.specs.declared.command.Command.the-variants as Command
 use Rattle.answers.specs.declared.Refusal.{Refusal}
-use Rattle.commands.specs.declared.prefix.Header.{Header}
-use Rattle.commands.specs.Prefix.{blankHeader}
+use Rattle.commands.specs.declared.header.Header.{Header}
+use Rattle.commands.specs.Header.{blankHeader}
 use Rattle.ticket.specs.declared.fields.Name.{Name}
 use Rattle.ticket.specs.declared.fields.Name.the-variants.{Absent, Text}
 use Rattle.ticket.specs.declared.fields.Mark.{Mark}
@@ -81,12 +81,12 @@ readingOf (refused r) = record { answer = Answer.Refused r; ticket = ticketOf no
 
 -- Where entry i of the marks stands. Document 01 leaves a count above 4,096 free: past the array's end its last entry stands again, so that the
 -- writer refuses the 4,097th mark with 3, as one that does not rise.
-abbrev pub placeOf : ℕ → ℕ
-placeOf i = cond (ltb i 4096) i 4095
+abbrev pub markIndex : ℕ → ℕ
+markIndex i = cond (ltb i 4096) i 4095
 
 abbrev pub listed : List Mark → ℕ → List Mark
 listed ms zero = []
-listed ms (suc n) = listed ms n ++ (getD ms (placeOf n) blankMark ∷ [])
+listed ms (suc n) = listed ms n ++ (getD ms (markIndex n) blankMark ∷ [])
 
 -- the fields that the code's ticket holds
 unfoldable pub fieldsOf : Ticket → Fields

@@ -8,13 +8,13 @@ use lib.Dec.{eqb}
 use lib.ListN.{length, drop}
 use Rattle.commands.specs.declared.command.Command.{Command}
 use Rattle.answers.specs.declared.Refusal.{Refusal}
-use Rattle.commands.specs.declared.command.Decoded.{Decoded}
-use Rattle.commands.specs.declared.command.Decoded.the-variants.{Unknown, Cut, Found}
-use Rattle.commands.specs.declared.prefix.Prefix.{Prefix}
+use Rattle.commands.specs.declared.parse.Parsed.{Parsed}
+use Rattle.commands.specs.declared.parse.Parsed.the-variants.{Unknown, Cut, Found}
+use Rattle.commands.specs.declared.progress.Progress.{Progress}
 use Rattle.commands.specs.declared.admit.Admitted.{Admitted}
 use Rattle.commands.specs.declared.admit.Admitted.the-variants as Admitted
-use Rattle.commands.specs.Bytes.{decodeOf, widthOf}
-use Rattle.commands.specs.Prefix.{startOf}
+use Rattle.commands.specs.Bytes.{parseOf, widthOf}
+use Rattle.commands.specs.Progress.{initialProgress}
 use Rattle.commands.specs.Admit.{admitOf}
 use Rattle.ticket.specs.declared.fields.Mark.{Mark}
 use Rattle.ticket.specs.declared.reader.Turn.{Turn}
@@ -29,37 +29,37 @@ admittedAs (Admitted.Refused r) c = Turn.Refused r
 admittedAs (Admitted.Next q) c = Turn.Next q c
 
 -- 1: unknown command byte; 2: no command byte left, or operands cut short; then 3 to 7
-abbrev pub decodedAs : Decoded → Prefix → Turn
-decodedAs Unknown p = Turn.Refused (refusal 1 (p .at))
-decodedAs Cut p = Turn.Refused (refusal 2 (p .at))
-decodedAs (Found c) p = admittedAs (admitOf p c) c
+abbrev pub parsedAs : Parsed → Progress → Turn
+parsedAs Unknown p = Turn.Refused (refusal 1 (p .at))
+parsedAs Cut p = Turn.Refused (refusal 2 (p .at))
+parsedAs (Found c) p = admittedAs (admitOf p c) c
 
 -- the command that the bytes left begin with
-unfoldable pub turnOf : List ℕ → Prefix → Turn
-turnOf s p = decodedAs (decodeOf s) p
+unfoldable pub nextCommandOf : List ℕ → Progress → Turn
+nextCommandOf s p = parsedAs (parseOf s) p
 
 -- after the end. 8: bytes after the end
-abbrev pub endOf : Prefix → List Mark → List ℕ → Outcome
+abbrev pub endOf : Progress → List Mark → List ℕ → Outcome
 endOf p ms [] = read (record { header = p .header; marks = inFileOrder ms })
 endOf p ms (b ∷ s) = refused (refusal 8 (p .at))
 
 -- what is left to do, from what the commands so far leave, their marks, the latest first, and the bytes left
 abbrev pub Rest : Type 0
-Rest = Prefix → List Mark → List ℕ → Outcome
+Rest = Progress → List Mark → List ℕ → Outcome
 
-abbrev pub onward : Turn → List Mark → List ℕ → Rest → Outcome
-onward (Turn.Refused r) ms s f = refused r
-onward (Turn.Next q c) ms s f = f q (marksWith ms c) (drop (widthOf c) s)
+abbrev pub readOnward : Turn → List Mark → List ℕ → Rest → Outcome
+readOnward (Turn.Refused r) ms s f = refused r
+readOnward (Turn.Next q c) ms s f = f q (marksWith ms c) (drop (widthOf c) s)
 
-abbrev pub ifEnded : Bool → Prefix → List Mark → List ℕ → Rest → Outcome
+abbrev pub ifEnded : Bool → Progress → List Mark → List ℕ → Rest → Outcome
 ifEnded true p ms s f = endOf p ms s
-ifEnded false p ms s f = onward (turnOf s p) ms s f
+ifEnded false p ms s f = readOnward (nextCommandOf s p) ms s f
 
 -- at most n turns
-unfoldable pub readFrom : ℕ → Prefix → List Mark → List ℕ → Outcome
+unfoldable pub readFrom : ℕ → Progress → List Mark → List ℕ → Outcome
 readFrom zero p ms s = refused (refusal 2 (p .at))
 readFrom (suc n) p ms s = ifEnded (eqb (p .stage) 5) p ms s (λ q ks t. readFrom n q ks t)
 
 -- every command has a byte or more, so one turn more than there are bytes is enough
 unfoldable pub readOf : List ℕ → Outcome
-readOf s = readFrom (suc (length s)) startOf [] s
+readOf s = readFrom (suc (length s)) initialProgress [] s

@@ -6,9 +6,9 @@ use mathlib.Core.Logic.{_↔_}
 use mathlib.Core.List.{List, [], _∷_}
 use Rattle.commands.specs.Every.{Every}
 use Rattle.commands.specs.Number.{digits}
-use Rattle.commands.specs.declared.command.Window.{Window}
+use Rattle.commands.specs.declared.header.Window.{Window}
 use Rattle.commands.specs.declared.command.Claim.{Claim}
-use Rattle.commands.specs.declared.prefix.Header.{Header}
+use Rattle.commands.specs.declared.header.Header.{Header}
 use Rattle.ticket.specs.declared.fields.Name.{Name}
 use Rattle.ticket.specs.declared.fields.Name.the-variants.{Absent, Text}
 use Rattle.ticket.specs.declared.fields.Mark.{Mark}

@@ -8,12 +8,12 @@ use lib.Dec.{leb}
 use lib.ListN.{length, take, drop}
 use Rattle.commands.specs.declared.command.Command.{Command}
 use Rattle.commands.specs.declared.command.Command.the-variants as Command
-use Rattle.commands.specs.declared.command.Kind.the-variants.{Code, Data, Stack}
-use Rattle.commands.specs.declared.prefix.Header.{Header}
+use Rattle.commands.specs.declared.header.WindowKind.the-variants.{Code, Data, Stack}
+use Rattle.commands.specs.declared.header.Header.{Header}
 use Rattle.commands.specs.declared.admit.Admitted.{Admitted}
 use Rattle.commands.specs.declared.admit.Admitted.the-variants.{Refused, Next}
 use Rattle.commands.specs.Bytes.{encodeOf}
-use Rattle.commands.specs.Prefix.{startOf}
+use Rattle.commands.specs.Progress.{initialProgress}
 use Rattle.commands.specs.Admit.{thenOf}
 use Rattle.ticket.specs.declared.fields.Name.{Name}
 use Rattle.ticket.specs.declared.fields.Name.the-variants.{Absent, Text}
@@ -59,7 +59,7 @@ allThen a [] = a
 allThen a (c ∷ cs) = allThen (thenOf a c) cs
 
 unfoldable pub checkOf : Fields → Admitted
-checkOf f = allThen (Next startOf) (commandsOf f)
+checkOf f = allThen (Next initialProgress) (commandsOf f)
 
 -- n bytes are needed
 abbrev pub writtenIf : Admitted → ℕ → ℕ → Written

@@ -2,7 +2,7 @@
 ghost use mathlib.Core.Path.{_≡_};
 ghost use Rattle.ticket.specs.Fields.{blankMark};
 use commands::command::Claim;
-use commands::prefix::Header;
+use commands::header::Header;
 use registers::Cycles;
 use registers::StackBytes;
 

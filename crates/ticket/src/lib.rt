@@ -14,14 +14,14 @@ use crate::fields::Ticket;
 use crate::fields::blank;
 use crate::reader::Turn;
 use crate::reader::entered;
+use crate::reader::latest_index;
 use crate::reader::next_command;
 use crate::reader::refused;
-use crate::reader::slot;
 use crate::writer::check;
 use crate::writer::put;
 use answers::refuse;
 use commands::admit::Admitted;
-use commands::prefix::start;
+use commands::progress::initial;
 
 pub mod answer; // what reading and writing answer
 pub mod fields; // the ticket and its marks
@@ -35,12 +35,12 @@ pub fn read(bytes: &[u8]) -> Reading
         × SameBytes (now (bytes .entry)) r ⌝ }
 {
     let mut marks = [blank(); 4096];
-    let mut p = start();
+    let mut p = initial();
     while p.stage != 5 {
         match next_command(bytes, p) {
             Turn::Refused(r) => return refused(r),
             Turn::Next(q, c) => {
-                let i = slot(q.count);
+                let i = latest_index(q.count);
                 let m = marks[i];
                 marks[i] = entered(m, c);
                 p = q;

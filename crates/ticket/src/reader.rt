@@ -2,9 +2,9 @@
 ghost use mathlib.Core.Path.{_≡_};
 ghost use Prim.Native.Nat.{_-_, _≤_};
 ghost use lib.ListN.{length, drop};
-ghost use Rattle.commands.specs.Prefix.{Sound};
+ghost use Rattle.commands.specs.inner.Sound.{Sound};
 ghost use Rattle.ticket.specs.Fields.{Outcome, enteredOf, readingOf};
-ghost use Rattle.ticket.specs.Read.{turnOf};
+ghost use Rattle.ticket.specs.Read.{nextCommandOf};
 use crate::answer::Answer;
 use crate::answer::Reading;
 use crate::fields::Mark;
@@ -16,27 +16,27 @@ use answers::refuse;
 use commands::admit::Admitted;
 use commands::admit::admit;
 use commands::command::Command;
-use commands::command::Decoded;
-use commands::decode::decode;
-use commands::prefix::Header;
-use commands::prefix::Prefix;
+use commands::header::Header;
+use commands::parse::Parsed;
+use commands::parse::parse;
+use commands::progress::Progress;
 
 // A command that is refused, or one that is read, with what it leaves for the next.
 pub enum Turn {
     Refused(Refusal),
-    Next(Prefix, Command),
+    Next(Progress, Command),
 }
 
 // The next command of a ticket.
-pub fn next_command(bytes: &[u8], p: Prefix) -> Turn
+pub fn next_command(bytes: &[u8], p: Progress) -> Turn
     requires { ⌜ Sound p × (p .at ≤ length (now bytes)) ⌝ }
-    ensures { λ r. ⌜ r ≡ turnOf (drop (p .at) (now (bytes .entry))) p ⌝ }
+    ensures { λ r. ⌜ r ≡ nextCommandOf (drop (p .at) (now (bytes .entry))) p ⌝ }
 {
     let at = p.at as usize;
-    match decode(&bytes[at..]) {
-        Decoded::Unknown => Turn::Refused(refuse(1, p.at)),
-        Decoded::Cut => Turn::Refused(refuse(2, p.at)),
-        Decoded::Found(c) => match admit(p, c) {
+    match parse(&bytes[at..]) {
+        Parsed::Unknown => Turn::Refused(refuse(1, p.at)),
+        Parsed::Cut => Turn::Refused(refuse(2, p.at)),
+        Parsed::Found(c) => match admit(p, c) {
             Admitted::Refused(r) => Turn::Refused(r),
             Admitted::Next(q) => Turn::Next(q, c),
         },
@@ -44,7 +44,7 @@ pub fn next_command(bytes: &[u8], p: Prefix) -> Turn
 }
 
 // Where the latest of some marks stands.
-pub fn slot(count: u16) -> usize
+pub fn latest_index(count: u16) -> usize
     ensures { λ r. ⌜ r ≡ count - 1 ⌝ }
 {
     if count == 0 { 0 } else { (count as usize) - 1 }

@@ -3,9 +3,9 @@ ghost use mathlib.Core.Path.{_≡_};
 ghost use Prim.Native.Nat.{_+_, _≤_};
 ghost use lib.ListN.{length};
 ghost use Rattle.commands.specs.Bytes.{encodeOf, widthOf};
-ghost use Rattle.commands.specs.Admit.{SoundSoFar};
-ghost use Rattle.commands.specs.Prefix.{startOf};
-ghost use Rattle.ticket.specs.Fields.{fieldsOf, placeOf};
+ghost use Rattle.commands.specs.inner.Sound.{SoundSoFar};
+ghost use Rattle.commands.specs.Progress.{initialProgress};
+ghost use Rattle.ticket.specs.Fields.{fieldsOf, markIndex};
 ghost use Rattle.ticket.specs.Write.{headerCommands, commandsAt, allThen, encodeAll, bytesOf, checkOf};
 ghost use Rattle.lists.specs.inner.Splice.{spliced};
 ghost use Rattle.ticket.specs.RoundTrip.{AllFit, FitsFields};
@@ -15,28 +15,31 @@ use crate::fields::Ticket;
 use commands::admit::Admitted;
 use commands::admit::then;
 use commands::command::Command;
-use commands::command::Kind;
 use commands::encode::encode;
-use commands::prefix::Header;
-use commands::prefix::start;
+use commands::header::Header;
+use commands::header::WindowKind;
+use commands::progress::initial;
 
 // Where entry i of a list of marks stands. Past the array's end its last entry stands again, which is refused as a mark that does not rise.
-fn place(i: usize) -> usize
-    ensures { λ r. ⌜ r ≡ placeOf i ⌝ }
+fn mark_index(i: usize) -> usize
+    ensures { λ r. ⌜ r ≡ markIndex i ⌝ }
 {
     if i < 4096 { i } else { 4095 }
 }
 
 fn header_checked(h: Header) -> Admitted
-    ensures { λ r. ⌜ (r ≡ allThen (Admitted.Next startOf) (headerCommands h)) × AllFit (headerCommands h) ⌝ }
+    ensures { λ r. ⌜ (r ≡ allThen (Admitted.Next initialProgress) (headerCommands h)) × AllFit (headerCommands h) ⌝ }
 {
     let code = h.code;
     let data = h.data;
     let stack = h.stack;
     let limit = h.limit;
-    let a = then(Admitted::Next(start()), Command::Window(Kind::Code, code));
-    let b = then(a, Command::Window(Kind::Data, data));
-    let c = then(b, Command::Window(Kind::Stack, stack));
+    let a = then(
+        Admitted::Next(initial()),
+        Command::Window(WindowKind::Code, code),
+    );
+    let b = then(a, Command::Window(WindowKind::Data, data));
+    let c = then(b, Command::Window(WindowKind::Stack, stack));
     then(c, Command::Entry(h.entry, limit))
 }
 
@@ -63,7 +66,7 @@ pub fn check(t: Ticket) -> Admitted
     let mut a = header_checked(header);
     let mut i = 0;
     while i < count {
-        let j = place(i);
+        let j = mark_index(i);
         let m = marks[j];
         a = mark_checked(a, m);
         i += 1;
@@ -95,9 +98,9 @@ fn put_header(h: Header, out: &mut [u8]) -> usize
     let data = h.data;
     let stack = h.stack;
     let limit = h.limit;
-    let a = put_command(Command::Window(Kind::Code, code), out, 0);
-    let b = put_command(Command::Window(Kind::Data, data), out, a);
-    let c = put_command(Command::Window(Kind::Stack, stack), out, b);
+    let a = put_command(Command::Window(WindowKind::Code, code), out, 0);
+    let b = put_command(Command::Window(WindowKind::Data, data), out, a);
+    let c = put_command(Command::Window(WindowKind::Stack, stack), out, b);
     put_command(Command::Entry(h.entry, limit), out, c)
 }
 
@@ -124,7 +127,7 @@ pub fn put(t: Ticket, out: &mut [u8])
     let mut at = put_header(header, out);
     let mut i = 0;
     while i < count {
-        let j = place(i);
+        let j = mark_index(i);
         let m = marks[j];
         at = put_mark(m, out, at);
         i += 1;

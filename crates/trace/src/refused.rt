@@ -2,7 +2,7 @@
 ghost use Prim.Native.Nat.{_<_};
 use answers::Refusal;
 use answers::Verdict;
-use commands::command::Window;
+use commands::header::Window;
 use io::write_all;
 use libc::STDOUT_FILENO;
 use text::listing::list;

@@ -11,7 +11,7 @@ use Rattle.registers.specs.declared.Data.{Data}
 use Rattle.registers.specs.Registers.{startOf}
 use Rattle.registers.specs.Word.{wrappingAdd}
 use Rattle.memory.specs.Memory.{byteAt, withByte, applied}
-use Rattle.commands.specs.declared.prefix.Header.{Header}
+use Rattle.commands.specs.declared.header.Header.{Header}
 use Rattle.ticket.specs.Fields.{Fields}
 use Rattle.commands.specs.Every.{none, more}
 use Rattle.ticket.specs.Rules.{In, HeaderRules}

@@ -8,7 +8,7 @@ use native.Mathlib.Omega.{arith}
 use lib.Dec.{eqb}
 use lib.ListN.{length}
 use Rattle.memory.specs.Memory.{Store, byteAt, applied}
-use Rattle.commands.specs.declared.prefix.Header.{Header}
+use Rattle.commands.specs.declared.header.Header.{Header}
 use Rattle.commands.proofs.Every.{every-map}
 use Rattle.ticket.specs.Fields.{Fields}
 use Rattle.commands.specs.Every.{none, more}

@@ -10,18 +10,18 @@ use lib.Dec.{eqb, leb, eqb·suc-zero}
 use lib.ListN.{length}
 use borrow.Author.Tests.{leb-true}
 use Rattle.commands.specs.Bytes as Bytes
-use Rattle.commands.specs.Cause.{causeOf}
-use Rattle.commands.specs.Prefix.{startOf, afterOf}
+use Rattle.commands.specs.Cause.{commandCauseOf}
+use Rattle.commands.specs.Progress.{initialProgress, afterOf}
 use Rattle.commands.specs.Admit.{admitOf}
 use Rattle.commands.specs.declared.command.Claim.{Claim}
 use Rattle.commands.specs.declared.command.Command.{Command}
-use Rattle.commands.specs.declared.command.Decoded.{Decoded}
-use Rattle.commands.specs.declared.command.Decoded.the-variants.{Unknown, Cut, Found}
-use Rattle.commands.specs.declared.prefix.Prefix.{Prefix}
+use Rattle.commands.specs.declared.parse.Parsed.{Parsed}
+use Rattle.commands.specs.declared.parse.Parsed.the-variants.{Unknown, Cut, Found}
+use Rattle.commands.specs.declared.progress.Progress.{Progress}
 use Rattle.commands.specs.declared.admit.Admitted.the-variants.{Refused, Next}
 use Rattle.ticket.specs.declared.fields.Mark.{Mark}
 use Rattle.ticket.specs.Fields.{Fields}
-use Rattle.ticket.specs.Read.{refusal, admittedAs, decodedAs, turnOf, endOf, Rest, onward, ifEnded, readFrom, readOf}
+use Rattle.ticket.specs.Read.{refusal, admittedAs, parsedAs, nextCommandOf, endOf, Rest, readOnward, ifEnded, readFrom, readOf}
 use Rattle.answers.specs.declared.Verdict.{Verdict}
 use Rattle.answers.specs.declared.Verdict.the-variants.{Accept, Refuse}
 use Rattle.rules.specs.Marks.{claimAt}
@@ -68,38 +68,38 @@ most : (b : Bool) (n k : ℕ) → leb n 20 ≡ true → leb k 20 ≡ true → le
 most true n k p q = p
 most false n k p q = q
 
-cause-most : (p : Prefix) (c : Command) → leb (causeOf p c) 20 ≡ true
-unfolding causeOf
+cause-most : (p : Progress) (c : Command) → leb (commandCauseOf p c) 20 ≡ true
+unfolding commandCauseOf
 cause-most p c = search most
 
-end-numbered : (image : List ℕ) (p : Prefix) (ms : List Mark) (s : List ℕ) → OneToTwenty (verdictBy (endOf p ms s) image)
+end-numbered : (image : List ℕ) (p : Progress) (ms : List Mark) (s : List ℕ) → OneToTwenty (verdictBy (endOf p ms s) image)
 end-numbered image p ms [] = verdict-on-numbered _ image
 end-numbered image p ms (b ∷ s) = search arith
 
 -- `left`: whatever is left to do gives such a verdict
 module _ (image : List ℕ) (ms : List Mark) (s : List ℕ) (f : Rest)
-    (left : (q : Prefix) (ks : List Mark) (t : List ℕ) → OneToTwenty (verdictBy (f q ks t) image)) where
-  admit-numbered : (p q : Prefix) (c : Command) (n : ℕ) → leb n 20 ≡ true
-      → OneToTwenty (verdictBy (onward (admittedAs (cond (eqb n 0) (Next q) (Refused (refusal n (p .at)))) c) ms s f) image)
+    (left : (q : Progress) (ks : List Mark) (t : List ℕ) → OneToTwenty (verdictBy (f q ks t) image)) where
+  admit-numbered : (p q : Progress) (c : Command) (n : ℕ) → leb n 20 ≡ true
+      → OneToTwenty (verdictBy (readOnward (admittedAs (cond (eqb n 0) (Next q) (Refused (refusal n (p .at)))) c) ms s f) image)
   admit-numbered p q c zero few = left q _ _
   admit-numbered p q c (suc n) few = rw eqb·suc-zero (omega arith, leb-true (suc n) 20 few)
 
-  turn-numbered : (p : Prefix) (d : Decoded) → OneToTwenty (verdictBy (onward (decodedAs d p) ms s f) image)
+  turn-numbered : (p : Progress) (d : Parsed) → OneToTwenty (verdictBy (readOnward (parsedAs d p) ms s f) image)
   unfolding admitOf
   turn-numbered p Unknown = search arith
   turn-numbered p Cut = search arith
-  turn-numbered p (Found c) = admit-numbered p (afterOf p c) c (causeOf p c) (cause-most p c)
+  turn-numbered p (Found c) = admit-numbered p (afterOf p c) c (commandCauseOf p c) (cause-most p c)
 
-  rest-numbered : (p : Prefix) (ended : Bool) → OneToTwenty (verdictBy (ifEnded ended p ms s f) image)
-  unfolding turnOf
+  rest-numbered : (p : Progress) (ended : Bool) → OneToTwenty (verdictBy (ifEnded ended p ms s f) image)
+  unfolding nextCommandOf
   rest-numbered p true = end-numbered image p ms s
   rest-numbered p false = turn-numbered p (Bytes.decodeOf s)
 
-read-numbered : (image : List ℕ) (n : ℕ) (p : Prefix) (ms : List Mark) (s : List ℕ) → OneToTwenty (verdictBy (readFrom n p ms s) image)
+read-numbered : (image : List ℕ) (n : ℕ) (p : Progress) (ms : List Mark) (s : List ℕ) → OneToTwenty (verdictBy (readFrom n p ms s) image)
 unfolding readFrom
 read-numbered image zero p ms s = search arith
 read-numbered image (suc n) p ms s = rest-numbered image ms s _ (read-numbered image n) p (eqb (p .stage) 5)
 
 pub numbered : (ticket image : List ℕ) → RefusalsNumbered ticket image
 unfolding verdictOf readOf
-numbered ticket image r h = rw h at (read-numbered image (suc (length ticket)) startOf [] ticket)
+numbered ticket image r h = rw h at (read-numbered image (suc (length ticket)) initialProgress [] ticket)

@@ -3,7 +3,7 @@
 -- Assumes nothing.
 use Prim.Native.Nat.{ℕ}
 use mathlib.Core.List.{List}
-use Rattle.commands.specs.declared.prefix.Header.{Header}
+use Rattle.commands.specs.declared.header.Header.{Header}
 use Rattle.ticket.specs.Fields.{Outcome, read, refused}
 use Rattle.ticket.specs.Read.{readOf}
 use Rattle.answers.specs.declared.Verdict.{Verdict}

@@ -10,8 +10,8 @@ use Rattle.registers.specs.declared.Data.{Data}
 use Rattle.registers.specs.Registers.{startOf}
 use Rattle.registers.specs.Word.{wrappingAdd, wrappingSub}
 use Rattle.memory.specs.Memory.{Store, store, applied}
-use Rattle.commands.specs.declared.command.Window.{Window}
-use Rattle.commands.specs.declared.prefix.Header.{Header}
+use Rattle.commands.specs.declared.header.Window.{Window}
+use Rattle.commands.specs.declared.header.Header.{Header}
 use Rattle.ticket.specs.Fields.{Fields}
 use Rattle.ticket.specs.Read.{refusal}
 use Rattle.rules.specs.Rules.{Accepted}

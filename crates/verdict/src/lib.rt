@@ -13,7 +13,7 @@ use answers::Refusal;
 use answers::Verdict;
 use answers::refuse;
 use checks::verdict::verdict_on;
-use commands::prefix::Header;
+use commands::header::Header;
 use registers::Cycles;
 use registers::Data;
 use registers::Registers;

@@ -3,7 +3,7 @@ ghost use mathlib.Core.Path.{_≡_};
 ghost use lib.ListN.{length};
 ghost use Rattle.memory.specs.Memory.{applied};
 ghost use Rattle.verdict.specs.Start.{lastOf, imageStores, homeStores};
-use commands::command::Window;
+use commands::header::Window;
 use memory::put_byte;
 use registers::word::wrapping_add;
 use registers::word::wrapping_sub;

@@ -5,9 +5,9 @@ use mathlib.Core.Bool.{Bool, true, cond, _&&_}
 use mathlib.Core.Option.{Option, none, some}
 use lib.Dec.{eqb, leb}
 use Rattle.registers.specs.Word.{wrappingAdd}
-use Rattle.commands.specs.Cause.{holds}
+use Rattle.commands.specs.Header.{holds}
 use Rattle.commands.specs.declared.command.Claim.{Claim}
-use Rattle.commands.specs.declared.command.Window.{Window}
+use Rattle.commands.specs.declared.header.Window.{Window}
 use Rattle.rules.specs.Checks.{depthAgrees, costCovers, needCovers, hasDepth, costCoversCall, needCoversTarget, needCoversAfter}
 use Rattle.checks.specs.declared.shape.Writes.{Writes}
 use Rattle.checks.specs.declared.shape.Writes.the-variants.{Nowhere, Byte, Word}

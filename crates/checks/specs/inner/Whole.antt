@@ -4,7 +4,7 @@ use Prim.Native.Nat.{_+_}
 use mathlib.Core.Bool.{cond}
 use lib.Dec.{eqb, leb}
 use Rattle.commands.specs.declared.command.Claim.{Claim}
-use Rattle.commands.specs.declared.prefix.Header.{Header}
+use Rattle.commands.specs.declared.header.Header.{Header}
 use Rattle.ticket.specs.Read.{refusal}
 use Rattle.answers.specs.declared.Verdict.{Verdict}
 use Rattle.answers.specs.declared.Verdict.the-variants.{Accept, Refuse}

@@ -3,7 +3,7 @@
 use Prim.Native.Nat.{ℕ, _+_, _/_, _%_}
 use mathlib.Core.List.{List}
 use lib.ListN.{set}
-use Rattle.commands.specs.declared.command.Window.{Window}
+use Rattle.commands.specs.declared.header.Window.{Window}
 
 abbrev pub putWord : List ℕ → ℕ → ℕ → List ℕ
 putWord bs i v = set (set bs i (v / 256)) (i + 1) (v % 256)

@@ -1,4 +1,4 @@
--- `read` meets its contract. The loop's invariant is `Reached`; the measure is how many bytes are left, of which each command takes one or more.
+-- `read` meets its contract. The loop's invariant is `ReadState`; the measure is how many bytes are left, of which each command takes one or more.
 -- Assumes nothing.
 use borrow.Author.Needs.{needs}
 use Prim.Native.Nat.{_-_}
@@ -13,12 +13,12 @@ use Rattle.ticket.specs.Rules.{ReadByTheRules}
 use Rattle.ticket.specs.RoundTrip.{SameBytes}
 use Rattle.ticket.proofs.Accepts.{by-the-rules}
 use Rattle.ticket.proofs.WrittenRead.{same-bytes}
-use Rattle.ticket.proofs.ReadLoop.{Reached, reached-start, reached-next, next-bounds, reading-refused, reading-long, reading-done}
+use Rattle.ticket.proofs.ReadLoop.{ReadState, reached-start, reached-next, next-bounds, reading-refused, reading-long, reading-done}
 use Rattle.ticket.proofs.read.Statement.{statement}
 use Rattle.ticket.proofs.read.Tie as tie
 
 abbrev Inv-loop : tie.InvT-loop
-Inv-loop bytes marks₀ p₀ marks p = Reached bytes marks p
+Inv-loop bytes marks₀ p₀ marks p = ReadState bytes marks p
 
 abbrev μ-loop : tie.MeasureT-loop
 μ-loop bytes marks₀ p₀ marks p = length bytes - p .at
@@ -63,7 +63,7 @@ loop-again : tie.Need-loop-again Inv-loop μ-loop
 loop-again c =
     let n = c .before .before .before .before .before .before in
     let e = sym (n .next-command .ensures) ∙ c .before .before .before .before .q .given .1 in
-    rw (c .entered .ensures, c .before .before .slot .ensures)
+    rw (c .entered .ensures, c .before .before .latest-index .ensures)
     (reached-next _ _ _ (n .before .before .before .loop .inv) (n .before .if1 .taken) _ _ e _)
 
 returns-2 : tie.Need-returns-2 Inv-loop μ-loop
@@ -88,7 +88,7 @@ read-spec =
     μ-loop
     (search needs)
     (search needs)
-    (λ c. rw (c .start .ensures, c .before .blank .ensures) (reached-start _))
+    (λ c. rw (c .initial .ensures, c .before .blank .ensures) (reached-start _))
     next-command-requires
     (search needs)
     (search needs)

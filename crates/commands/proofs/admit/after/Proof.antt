@@ -1,8 +1,8 @@
--- `commands::admit::after` meets its contract: no sum overflows, since a sound prefix is short.
+-- `commands::admit::after` meets its contract: no sum overflows, since sound progress is short.
 -- Assumes nothing.
 use borrow.Author.Needs.{needs}
 use native.Mathlib.Omega.{arith}
-use Rattle.commands.specs.Prefix.{afterOf}
+use Rattle.commands.specs.Progress.{afterOf}
 use Rattle.commands.proofs.Sound.{bounds}
 use Rattle.commands.proofs.admit.after.Statement.{statement}
 use Rattle.commands.proofs.admit.after.Tie as tie

@@ -1,14 +1,13 @@
 -- `then` meets its contract: by the case of what is admitted so far.
 -- Assumes nothing.
 use borrow.Author.Needs.{needs}
-use Rattle.commands.specs.Prefix.{Sound}
-use Rattle.commands.specs.Admit.{SoundSoFar, sound}
-use Rattle.commands.specs.declared.prefix.Prefix.{Prefix}
+use Rattle.commands.specs.inner.Sound.{Sound, SoundSoFar, sound}
+use Rattle.commands.specs.declared.progress.Progress.{Progress}
 use Rattle.commands.specs.declared.admit.Admitted.the-variants.{Next}
 use Rattle.commands.proofs.admit.then.Statement.{statement}
 use Rattle.commands.proofs.admit.then.Tie as tie
 
-sound-next : {p : Prefix} → SoundSoFar (Next p) → Sound p
+sound-next : {p : Progress} → SoundSoFar (Next p) → Sound p
 sound-next (sound h) = h
 
 pub then-spec : {M : Type 1} → statement M

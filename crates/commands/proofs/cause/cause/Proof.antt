@@ -1,18 +1,18 @@
 -- `cause` meets its contract: the tests stand in the order of the causes.
 -- Assumes nothing.
 use borrow.Author.Needs.{needs}
-use Rattle.commands.specs.Cause.{causeOf}
+use Rattle.commands.specs.Cause.{commandCauseOf}
 use Rattle.commands.proofs.Tests.{fails, passes}
 use Rattle.commands.proofs.cause.cause.Statement.{statement}
 use Rattle.commands.proofs.cause.cause.Tie as tie
 
 returns : tie.Need-returns
-unfolding causeOf
+unfolding commandCauseOf
 returns c =
     simp (fails (c .before .in-order .ensures) (c .if1 .taken))
 
 returns-2 : tie.Need-returns-2
-unfolding causeOf
+unfolding commandCauseOf
 returns-2 c =
     let order = c .before .before in
     simp (
@@ -21,7 +21,7 @@ returns-2 c =
     )
 
 returns-3 : tie.Need-returns-3
-unfolding causeOf
+unfolding commandCauseOf
 returns-3 c =
     let ranges = c .before .before in
     let order = ranges .before .before in
@@ -32,7 +32,7 @@ returns-3 c =
     )
 
 returns-4 : tie.Need-returns-4
-unfolding causeOf
+unfolding commandCauseOf
 returns-4 c =
     let edges = c .before .before in
     let ranges = edges .before .before in
@@ -45,7 +45,7 @@ returns-4 c =
     )
 
 returns-5 : tie.Need-returns-5
-unfolding causeOf
+unfolding commandCauseOf
 returns-5 c =
     let apart = c .before .before in
     let edges = apart .before .before in
@@ -60,7 +60,7 @@ returns-5 c =
     )
 
 returns-6 : tie.Need-returns-6
-unfolding causeOf
+unfolding commandCauseOf
 returns-6 c =
     let apart = c .before .before in
     let edges = apart .before .before in

@@ -9,7 +9,7 @@ in-order-spec =
     tie.close
     (tie.spec
     (search needs) (search needs) (search needs) (search needs) (search needs) (search needs)
-    (λ c. simp (c .before .before .before .c .given .1, c .before .turn-of .ensures))
+    (λ c. simp (c .before .before .before .c .given .1, c .before .stage-of .ensures))
     (λ c. simp (c .before .enum-told .given .1))
     (λ c. simp (c .before .before .before .before .c2 .given .1))
     (λ c. simp (c .before .before .before .before .c3 .given .1))

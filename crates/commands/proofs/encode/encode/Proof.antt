@@ -3,15 +3,15 @@
 use borrow.Author.Needs.{needs}
 use mathlib.Core.Path.{_≡_, refl}
 use Rattle.commands.specs.Bytes.{encodeOf, widthOf}
-use Rattle.commands.specs.declared.command.Window.{Window}
-use Rattle.commands.specs.declared.command.Kind.{Kind}
-use Rattle.commands.specs.declared.command.Kind.the-variants.{Code, Data, Stack}
+use Rattle.commands.specs.declared.header.Window.{Window}
+use Rattle.commands.specs.declared.header.WindowKind.{WindowKind}
+use Rattle.commands.specs.declared.header.WindowKind.the-variants.{Code, Data, Stack}
 use Rattle.commands.specs.declared.command.Command.the-variants as Command
 use Rattle.commands.proofs.encode.encode.Statement.{statement}
 use Rattle.commands.proofs.encode.encode.Tie as tie
 
 -- a window takes 5 bytes, whatever its kind
-window-width : (k : Kind) (w : Window) → widthOf (Command.Window k w) ≡ 5
+window-width : (k : WindowKind) (w : Window) → widthOf (Command.Window k w) ≡ 5
 unfolding widthOf
 window-width Code w = refl
 window-width Data w = refl

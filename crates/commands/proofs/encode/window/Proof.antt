@@ -4,16 +4,16 @@ use borrow.Author.Needs.{needs}
 use mathlib.Core.Path.{_≡_, refl}
 use mathlib.Core.List.{_∷_, _++_}
 use Rattle.commands.specs.Number.{digits}
-use Rattle.commands.specs.Bytes.{byteOfKind, encodeOf}
-use Rattle.commands.specs.declared.command.Window.{Window}
-use Rattle.commands.specs.declared.command.Kind.{Kind}
-use Rattle.commands.specs.declared.command.Kind.the-variants.{Code, Data, Stack}
+use Rattle.commands.specs.Bytes.{windowByteOf, encodeOf}
+use Rattle.commands.specs.declared.header.Window.{Window}
+use Rattle.commands.specs.declared.header.WindowKind.{WindowKind}
+use Rattle.commands.specs.declared.header.WindowKind.the-variants.{Code, Data, Stack}
 use Rattle.commands.specs.declared.command.Command.the-variants as Command
 use Rattle.commands.proofs.encode.window.Statement.{statement}
 use Rattle.commands.proofs.encode.window.Tie as tie
 
 -- the same two operands, whatever the window's kind
-row : (k : Kind) (w : Window) → encodeOf (Command.Window k w) ≡ byteOfKind k ∷ (digits 2 (w .start) ++ digits 2 (w .length))
+row : (k : WindowKind) (w : Window) → encodeOf (Command.Window k w) ≡ windowByteOf k ∷ (digits 2 (w .start) ++ digits 2 (w .length))
 unfolding encodeOf
 row Code w = refl
 row Data w = refl
@@ -34,5 +34,5 @@ window-spec =
       c .before .high2 .ensures,
       c .before .before .low .ensures,
       c .before .before .before .high .ensures,
-      c .before .before .before .before .kind-byte .ensures,
+      c .before .before .before .before .window-byte .ensures,
     )))

@@ -8,14 +8,14 @@ use native.Mathlib.Omega.{arith}
 use lib.ListN.{getD}
 use Rattle.commands.specs.declared.admit.Admitted.the-variants.{Next}
 use Rattle.commands.specs.Every.{none}
-use Rattle.commands.specs.Prefix.{startOf}
-use Rattle.commands.specs.Admit.{SoundSoFar, sound}
+use Rattle.commands.specs.Progress.{initialProgress}
+use Rattle.commands.specs.inner.Sound.{SoundSoFar, sound}
 use Rattle.commands.proofs.Sound.{sound-start}
-use Rattle.ticket.specs.Fields.{blankMark, placeOf, listed, fieldsOf}
+use Rattle.ticket.specs.Fields.{blankMark, markIndex, listed, fieldsOf}
 use Rattle.ticket.specs.Write.{headerCommands, commandsAt, markCommands, allThen}
 use Rattle.ticket.specs.RoundTrip.{AllFit}
 use Rattle.ticket.proofs.Fitting.{fit-listed, fit-ticket}
-use Rattle.ticket.proofs.Place.{place-below}
+use Rattle.ticket.proofs.MarkIndex.{mark-index-below}
 use Rattle.ticket.proofs.Checks.{sound-all, all-listed, all-checked}
 use Rattle.ticket.proofs.writer.check.Statement.{statement}
 use Rattle.ticket.proofs.writer.check.Tie as tie
@@ -30,10 +30,10 @@ abbrev μ-loop : tie.MeasureT-loop
 loop-holds : tie.Need-loop-holds Inv-loop μ-loop
 loop-holds c =
     let h = c .before .before .before .before .args .t .header in
-    (rw (c .header-checked .ensures .0) (sound-all (Next startOf) (headerCommands h) (sound sound-start)), refl, none, omega arith)
+    (rw (c .header-checked .ensures .0) (sound-all (Next initialProgress) (headerCommands h) (sound sound-start)), refl, none, omega arith)
 
 array-copy-out-m : tie.Need-array-copy-out-m Inv-loop μ-loop
-array-copy-out-m c = rw (c .place .ensures) (place-below (c .before .before .loop .i))
+array-copy-out-m c = rw (c .mark-index .ensures) (mark-index-below (c .before .before .loop .i))
 
 mul-m : tie.Need-mul-m Inv-loop μ-loop
 mul-m c = record { fits = omega (arith, array-copy-out-m c) }
@@ -45,11 +45,11 @@ loop-again : tie.Need-loop-again Inv-loop μ-loop
 loop-again c =
     let l = c .before .before .before .before .loop in
     let ms = c .before .before .before .before .before .before .before .before .before .args .t .marks in
-    let m = getD ms (placeOf (l .i)) blankMark in
-    let next : c .mark-checked .result ≡ allThen (l .a) (commandsAt m) = simp (c .mark-checked .ensures .0, c .before .before .place .ensures) in (
+    let m = getD ms (markIndex (l .i)) blankMark in
+    let next : c .mark-checked .result ≡ allThen (l .a) (commandsAt m) = simp (c .mark-checked .ensures .0, c .before .before .mark-index .ensures) in (
       rw next (sound-all (l .a) (commandsAt m) (l .inv .0)),
       rw (next, all-listed, ← l .inv .1),
-      fit-listed ms (l .i) (l .inv .2) (rw (← c .before .before .place .ensures) (c .mark-checked .ensures .1)),
+      fit-listed ms (l .i) (l .inv .2) (rw (← c .before .before .mark-index .ensures) (c .mark-checked .ensures .1)),
       omega arith,
     )
 

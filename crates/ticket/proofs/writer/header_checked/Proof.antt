@@ -2,9 +2,9 @@
 -- Assumes nothing.
 use borrow.Author.Needs.{needs}
 use native.Mathlib.Omega.{arith}
-use Rattle.commands.specs.declared.command.Kind.the-variants.{Code, Data, Stack}
+use Rattle.commands.specs.declared.header.WindowKind.the-variants.{Code, Data, Stack}
 use Rattle.commands.specs.Every.{none, more}
-use Rattle.commands.specs.Admit.{sound}
+use Rattle.commands.specs.inner.Sound.{sound}
 use Rattle.commands.proofs.Sound.{sound-start, sound-then}
 use Rattle.ticket.specs.Write.{headerCommands}
 use Rattle.ticket.specs.RoundTrip.{AllFit}
@@ -13,7 +13,7 @@ use Rattle.ticket.proofs.writer.header_checked.Statement.{statement}
 use Rattle.ticket.proofs.writer.header_checked.Tie as tie
 
 then-requires : tie.Need-then-requires
-then-requires c κs = rw (c .start .ensures) (sound sound-start)
+then-requires c κs = rw (c .initial .ensures) (sound sound-start)
 
 then-requires-2 : tie.Need-then-requires-2
 then-requires-2 c κs = rw (c .then .ensures) (sound-then _ _ (then-requires (c .before) κs))
@@ -40,7 +40,7 @@ returns c = (
     c .before .then3 .ensures,
     c .before .before .then2 .ensures,
     c .before .before .before .then .ensures,
-    c .before .before .before .before .start .ensures,
+    c .before .before .before .before .initial .ensures,
   ),
   fits (c .before .before .before .before .before .before .before .before .before),
 )

@@ -10,7 +10,7 @@ use borrow.Author.Needs.{needs}
 use Rattle.commands.specs.declared.command.Command.the-variants as Command
 use Rattle.commands.specs.Bytes.{widthOf}
 use Rattle.ticket.specs.Write.{headerCommands, encodeAll}
-use Rattle.ticket.proofs.Place.{place-below}
+use Rattle.ticket.proofs.MarkIndex.{mark-index-below}
 use Rattle.lists.proofs.Splice.{Placed, placed-none, placed-next}
 use Rattle.ticket.proofs.Placed.{placed-command}
 use Rattle.ticket.proofs.Parts.{marksBytes, marks-more, end-room, mark-room, length-header, ticket-parts}
@@ -32,17 +32,17 @@ put-header-requires c κs = omega (arith, end-room (c .before .before .before .b
 loop-holds : tie.Need-loop-holds Inv-loop μ-loop
 loop-holds c = (placed-none _ _, omega arith, refl)
 
-place-requires : tie.Need-place-requires Inv-loop μ-loop
-place-requires c κs = search needs
+mark-index-requires : tie.Need-mark-index-requires Inv-loop μ-loop
+mark-index-requires c κs = search needs
 
 mul-m : tie.Need-mul-m Inv-loop μ-loop
-mul-m c = omega (arith, place-below (c .before .before .loop .i))
+mul-m c = omega (arith, mark-index-below (c .before .before .loop .i))
 
 array-copy-out-m : tie.Need-array-copy-out-m Inv-loop μ-loop
-array-copy-out-m c = omega (arith, place-below (c .before .before .loop .i))
+array-copy-out-m c = omega (arith, mark-index-below (c .before .before .loop .i))
 
 put-mark-requires : tie.Need-put-mark-requires Inv-loop μ-loop
-put-mark-requires c κs = omega (arith, mark-room (c .before .before .before .before .before .before .before .before .before .before .before .before .before .args .t) (c .before .before .before .before .loop .i) (c .before .before .place .ensures) (c .before .before .before .loop-test .taken))
+put-mark-requires c κs = omega (arith, mark-room (c .before .before .before .before .before .before .before .before .before .before .before .before .before .args .t) (c .before .before .before .before .loop .i) (c .before .before .mark-index .ensures) (c .before .before .before .loop-test .taken))
 
 add-i : tie.Need-add-i Inv-loop μ-loop
 add-i c = omega arith
@@ -56,7 +56,7 @@ loop-again c =
     let at-loop = placed .before .before in
     let l = at-loop .loop in
     let t = at-loop .before .before .before .before .before .before .before .before .before .args .t in
-    let e = placed .place .ensures in
+    let e = placed .mark-index .ensures in
     let room = mark-room t (l .i) e (placed .before .loop-test .taken) in (
       rw (add-one, marks-more (t .marks) (l .i) e) (placed-next (l .inv .0) (omega arith) _ (c .before .before .put-mark .ensures)),
       omega arith,
@@ -95,7 +95,7 @@ put-spec =
     cast-count
     put-header-requires
     loop-holds
-    place-requires
+    mark-index-requires
     mul-m
     array-copy-out-m
     put-mark-requires

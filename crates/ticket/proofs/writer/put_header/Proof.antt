@@ -3,7 +3,7 @@
 use native.Mathlib.Omega.{arith}
 use mathlib.Core.List.{append-nil, append-assoc}
 use borrow.Author.Needs.{needs}
-use Rattle.commands.specs.declared.command.Kind.the-variants.{Code, Data, Stack}
+use Rattle.commands.specs.declared.header.WindowKind.the-variants.{Code, Data, Stack}
 use Rattle.commands.specs.declared.command.Command.the-variants as Command
 use Rattle.commands.specs.Bytes.{widthOf}
 use Rattle.lists.proofs.Splice.{placed-none}

@@ -1,8 +1,8 @@
 -- `with_window` meets its contract: a case for each window.
 -- Assumes nothing.
 use borrow.Author.Needs.{needs}
-use Rattle.commands.proofs.admit.with_window.Statement.{statement}
-use Rattle.commands.proofs.admit.with_window.Tie as tie
+use Rattle.commands.proofs.header.with_window.Statement.{statement}
+use Rattle.commands.proofs.header.with_window.Tie as tie
 
 pub with-window-spec : {M : Type 1} → statement M
 with-window-spec =

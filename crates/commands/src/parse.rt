@@ -2,18 +2,24 @@
 ghost use mathlib.Core.Path.{_≡_};
 ghost use Prim.Native.Nat.{_<_, _≤_};
 ghost use lib.ListN.{length};
-ghost use Rattle.commands.specs.Bytes.{decodeOf, commandOf, windowOf, claimOf, operandsIn, sizeOf};
+ghost use Rattle.commands.specs.Bytes.{parseOf, commandOf, windowOf, claimOf, operandsIn, sizeOf};
 ghost use Rattle.commands.specs.Rows.{rowOf};
 use crate::command::Claim;
 use crate::command::Command;
-use crate::command::Decoded;
-use crate::command::Kind;
-use crate::command::Window;
+use crate::header::Window;
+use crate::header::WindowKind;
 use crate::number::long;
 use crate::number::text;
 use crate::number::word;
 use registers::Cycles;
 use registers::StackBytes;
+
+// What bytes begin with.
+pub enum Parsed {
+    Unknown, // no command has this byte
+    Cut, // no byte is left, or the operands are cut short
+    Found(Command),
+}
 
 // How many bytes the operands of a command byte have.
 fn size(b: u8) -> usize
@@ -57,27 +63,27 @@ fn command(b: u8, s: &[u8]) -> Command
 {
     match b {
         0 => Command::End,
-        1 => Command::Window(Kind::Code, window(s)),
-        2 => Command::Window(Kind::Data, window(s)),
-        3 => Command::Window(Kind::Stack, window(s)),
+        1 => Command::Window(WindowKind::Code, window(s)),
+        2 => Command::Window(WindowKind::Data, window(s)),
+        3 => Command::Window(WindowKind::Stack, window(s)),
         4 => Command::Entry(word(s, 0), Cycles(long(s, 2))),
         5 => Command::Mark(word(s, 0), claim(s)),
         _ => Command::Name(word(s, 0), text(s, 2)),
     }
 }
 
-pub fn decode(s: &[u8]) -> Decoded
-    ensures { λ r. ⌜ r ≡ decodeOf (now (s .entry)) ⌝ }
+pub fn parse(s: &[u8]) -> Parsed
+    ensures { λ r. ⌜ r ≡ parseOf (now (s .entry)) ⌝ }
 {
     if s.len() == 0 {
-        return Decoded::Cut;
+        return Parsed::Cut;
     }
     let b = s[0];
     if 6 < b {
-        return Decoded::Unknown;
+        return Parsed::Unknown;
     }
     if s.len() - 1 < size(b) {
-        return Decoded::Cut;
+        return Parsed::Cut;
     }
-    Decoded::Found(command(b, &s[1..]))
+    Parsed::Found(command(b, &s[1..]))
 }

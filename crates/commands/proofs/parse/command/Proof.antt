@@ -1,10 +1,10 @@
--- `decode::command` meets its contract: by the byte that was matched.
+-- `parse::command` meets its contract: by the byte that was matched.
 -- Assumes nothing.
 use mathlib.Core.Path.{_≡_}
 use native.Mathlib.Omega.{arith}
 use Rattle.commands.specs.Bytes.{commandOf}
-use Rattle.commands.proofs.decode.command.Statement.{statement}
-use Rattle.commands.proofs.decode.command.Tie as tie
+use Rattle.commands.proofs.parse.command.Statement.{statement}
+use Rattle.commands.proofs.parse.command.Tie as tie
 
 word-requires-3 : tie.Need-word-requires-3
 word-requires-3 c κs =

@@ -1,4 +1,4 @@
--- `decode::size` meets its contract: the bytes without an arm of their own are the windows.
+-- `parse::size` meets its contract: the bytes without an arm of their own are the windows.
 -- Assumes nothing.
 use mathlib.Core.Path.{_≡_, refl}
 use Prim.Native.Nat.{ℕ, zero, suc, _<_}
@@ -6,8 +6,8 @@ use borrow.Author.Needs.{needs}
 use native.Mathlib.Omega.{arith}
 use Rattle.commands.specs.Bytes.{sizeOf}
 use Rattle.commands.specs.Rows.{rowOf}
-use Rattle.commands.proofs.decode.size.Statement.{statement}
-use Rattle.commands.proofs.decode.size.Tie as tie
+use Rattle.commands.proofs.parse.size.Statement.{statement}
+use Rattle.commands.proofs.parse.size.Tie as tie
 
 window-size : (b : ℕ) → 0 < b → b < 4 → 4 ≡ sizeOf (rowOf b)
 window-size zero h k = absurd (omega arith)

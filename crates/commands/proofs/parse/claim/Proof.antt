@@ -1,9 +1,9 @@
--- `decode::claim` meets its contract.
+-- `parse::claim` meets its contract.
 -- Assumes nothing.
 use borrow.Author.Needs.{needs}
 use lib.Seq.{drop-drop}
-use Rattle.commands.proofs.decode.claim.Statement.{statement}
-use Rattle.commands.proofs.decode.claim.Tie as tie
+use Rattle.commands.proofs.parse.claim.Statement.{statement}
+use Rattle.commands.proofs.parse.claim.Tie as tie
 
 pub claim-spec : {M : Type 1} → statement M
 claim-spec =
