@@ -11,8 +11,9 @@ use lib.ListN.{getD, length, take, drop, length-append, length-drop, take-append
 use lib.Seq.{take-at, drop-at, take-add, length-take-le}
 use borrow.Author.Tests.{ltb-true, leb-true, le-leb}
 use Rattle.commands.specs.Number.{number, digits, AllBytes}
-use Rattle.commands.specs.Rows.{Operand, widthIn, rowOf, known}
-use Rattle.commands.specs.Bytes.{commandByteOf, operandsOf, joined, encodeOf, sizeOf, widthOf, operandsIn, commandsWith, commandOf, parseOf}
+use Rattle.commands.specs.Rows.{Operand, widthIn, sizeOf, rows, rowOf, known}
+use Rattle.commands.specs.Bytes.{joined, encodeOf, widthOf, operandsIn, commandOf, parseOf}
+use Rattle.commands.specs.Command.{commandByteOf, operandsOf, commandWith}
 use Rattle.commands.specs.Fits.{FitsRow, Fits}
 use Rattle.commands.specs.Fits.FitsRow.{none, more}
 use Rattle.commands.specs.Progress.{afterOf}
@@ -22,21 +23,54 @@ use Rattle.commands.specs.declared.command.Command.the-variants as Comma
 use Rattle.commands.specs.declared.parse.Parsed.{Parsed}
 use Rattle.commands.specs.declared.parse.Parsed.the-variants as Parsed
 use Rattle.commands.specs.declared.progress.Progress.{Progress}
+use Rattle.commands.proofs.Table.{Matched, nothing, one, matched, row-size}
 use Rattle.commands.proofs.Digits.{length-digits, number-digits, number-below, digits-number, bytes-take, bytes-drop}
+
+-- ---- a command, its byte and its operands
+
+-- a command's byte is known, it has as many operands as its row, and it is the command of that byte and these operands
+pub record Said (c : Command) : Type 0 where
+  pub known-byte : known (commandByteOf c) ≡ true
+  pub as-many : length (operandsOf c) ≡ length (rowOf (commandByteOf c))
+  pub same : commandWith (commandByteOf c) (operandsOf c) ≡ c
+
+pub said : (c : Command) → Said c
+said Command.End = record { known-byte = refl; as-many = refl; same = refl }
+said (Command.Window Code w) = record { known-byte = refl; as-many = refl; same = refl }
+said (Command.Window Data w) = record { known-byte = refl; as-many = refl; same = refl }
+said (Command.Window Stack w) = record { known-byte = refl; as-many = refl; same = refl }
+said (Command.Entry a l) = record { known-byte = refl; as-many = refl; same = refl }
+said (Command.Mark a m) = record { known-byte = refl; as-many = refl; same = refl }
+said (Command.Name a t) = record { known-byte = refl; as-many = refl; same = refl }
+
+-- the command of a byte has that byte, and the operands that it was made with
+command-parts : (b : ℕ) (s : List ℕ) → b < length rows → (commandByteOf (commandOf b s) ≡ b) × (operandsOf (commandOf b s) ≡ operandsIn (rowOf b) s)
+unfolding commandOf
+command-parts zero s h = (refl, refl)
+command-parts (suc zero) s h = (refl, refl)
+command-parts (suc (suc zero)) s h = (refl, refl)
+command-parts (suc (suc (suc zero))) s h = (refl, refl)
+command-parts (suc (suc (suc (suc zero)))) s h = (refl, refl)
+command-parts (suc (suc (suc (suc (suc zero))))) s h = (refl, refl)
+command-parts (suc (suc (suc (suc (suc (suc zero)))))) s h = (refl, refl)
+command-parts (suc (suc (suc (suc (suc (suc (suc b))))))) s h = let z : ⊥ = omega arith in absurd z
+
+length-joined : {os : List Operand} {vs : List ℕ} → Matched os vs → length (joined os vs) ≡ sizeOf os
+length-joined nothing = refl
+length-joined (one m) = simp (length-append, length-digits, length-joined m)
 
 pub length-encode : (c : Command) → length (encodeOf c) ≡ widthOf c
 unfolding encodeOf widthOf
-length-encode Command.End = refl
-length-encode (Command.Window Code w) = refl
-length-encode (Command.Window Data w) = refl
-length-encode (Command.Window Stack w) = refl
-length-encode (Command.Entry a l) = refl
-length-encode (Command.Mark a m) = refl
-length-encode (Command.Name a t) = refl
+length-encode c = omega (arith, length-joined (matched (rowOf (commandByteOf c)) (operandsOf c) (said c .as-many)))
 
 pub width-positive : (c : Command) → 1 ≤ widthOf c
 unfolding widthOf
 width-positive c = omega arith
+
+-- no command has more than 11 bytes
+pub width-most : (c : Command) → widthOf c ≤ 11
+unfolding widthOf
+width-most c = omega (arith, row-size (commandByteOf c))
 
 pub after-at : (p : Progress) (c : Command) → afterOf p c .at ≡ p .at + widthOf c
 unfolding afterOf widthOf
@@ -80,39 +114,6 @@ fits-operands (o ∷ os) s a room =
     let w = widthIn o in
     more (taken-below w s a (omega arith)) (fits-operands os (drop w s) (bytes-drop w a) (simp length-drop (omega arith)))
 
--- ---- a command and its byte
-
-byte-known : (c : Command) → known (commandByteOf c) ≡ true
-byte-known Command.End = refl
-byte-known (Command.Window Code w) = refl
-byte-known (Command.Window Data w) = refl
-byte-known (Command.Window Stack w) = refl
-byte-known (Command.Entry a l) = refl
-byte-known (Command.Mark a m) = refl
-byte-known (Command.Name a t) = refl
-
--- the command of a command's byte and operands
-commands-with : (c : Command) → getD (commandsWith (operandsOf c)) (commandByteOf c) Command.End ≡ c
-commands-with Command.End = refl
-commands-with (Command.Window Code w) = refl
-commands-with (Command.Window Data w) = refl
-commands-with (Command.Window Stack w) = refl
-commands-with (Command.Entry a l) = refl
-commands-with (Command.Mark a m) = refl
-commands-with (Command.Name a t) = refl
-
--- the command of a byte has that byte, and the operands that it was made with
-command-parts : (b : ℕ) (s : List ℕ) → b < 7 → (commandByteOf (commandOf b s) ≡ b) × (operandsOf (commandOf b s) ≡ operandsIn (rowOf b) s)
-unfolding commandOf
-command-parts zero s h = (refl, refl)
-command-parts (suc zero) s h = (refl, refl)
-command-parts (suc (suc zero)) s h = (refl, refl)
-command-parts (suc (suc (suc zero))) s h = (refl, refl)
-command-parts (suc (suc (suc (suc zero)))) s h = (refl, refl)
-command-parts (suc (suc (suc (suc (suc zero))))) s h = (refl, refl)
-command-parts (suc (suc (suc (suc (suc (suc zero)))))) s h = (refl, refl)
-command-parts (suc (suc (suc (suc (suc (suc (suc b))))))) s h = let z : ⊥ = omega arith in absurd z
-
 -- ---- reading
 
 pub parse-encode : (c : Command) (s : List ℕ) → Fits c → parseOf (encodeOf c ++ s) ≡ Parsed.Found c
@@ -120,7 +121,7 @@ unfolding parseOf encodeOf commandOf widthOf
 parse-encode c s f =
     let row = rowOf (commandByteOf c) in
     let room : sizeOf row ≤ length (joined row (operandsOf c) ++ s) = simp length-append (omega (arith, length-encode c)) in
-    rw (byte-known c, le-leb _ _ room, operands-joined f s, commands-with c)
+    rw (said c .known-byte, le-leb _ _ room, operands-joined f s, said c .same)
 
 module _ (b : ℕ) (s : List ℕ) (c : Command) where
   picked : (k r : Bool) → cond k (cond r (Parsed.Found (commandOf b s)) Parsed.Cut) Parsed.Unknown ≡ Parsed.Found c → (k ≡ true) × (r ≡ true) × (commandOf b s ≡ c)

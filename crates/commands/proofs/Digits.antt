@@ -14,6 +14,13 @@ pub length-digits : (w v : ℕ) → length (digits w v) ≡ w
 length-digits zero v = refl
 length-digits (suc w) v = simp (length-append, length-digits w (v / 256)) (omega arith)
 
+-- twice as many bytes are those of the high half and of the low half
+pub digits-long : (v : ℕ) → digits 2 (v / 65536) ++ digits 2 v ≡ digits 4 v
+digits-long v = let e : v / 65536 ≡ v / 256 / 256 = omega arith in rw e
+
+pub digits-quad : (v : ℕ) → digits 4 (v / 4294967296) ++ digits 4 v ≡ digits 8 v
+digits-quad v = let e : v / 4294967296 ≡ v / 256 / 256 / 256 / 256 = omega arith in rw e
+
 pub number-digits : (w v : ℕ) → v < 256 ^ w → number (digits w v) ≡ v
 number-digits zero v h = omega arith
 number-digits (suc w) v h =

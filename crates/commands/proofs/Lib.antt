@@ -2,6 +2,8 @@ pub mod Every
 pub mod Tests
 pub mod Pieces
 pub mod Digits
+pub mod Put
+pub mod Table
 pub mod Coding
 pub mod Causes
 pub mod Sound

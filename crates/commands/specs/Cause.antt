@@ -5,7 +5,7 @@ use mathlib.Core.Bool.{Bool, true, cond, not, _&&_, _||_}
 use mathlib.Core.List.{List, [], _∷_}
 use lib.Dec.{eqb, ltb, leb}
 use Rattle.commands.specs.Rows.{Operand, inRange, rowOf}
-use Rattle.commands.specs.Bytes.{commandByteOf, operandsOf}
+use Rattle.commands.specs.Command.{commandByteOf, operandsOf}
 use Rattle.commands.specs.Header.{pastOf, holds}
 use Rattle.commands.specs.declared.header.Window.{Window}
 use Rattle.commands.specs.declared.header.WindowKind.{WindowKind}

@@ -3,7 +3,7 @@
 use Prim.Native.Nat.{ℕ, _^_, _<_}
 use mathlib.Core.List.{List, [], _∷_}
 use Rattle.commands.specs.Rows.{Operand, widthIn, rowOf}
-use Rattle.commands.specs.Bytes.{commandByteOf, operandsOf}
+use Rattle.commands.specs.Command.{commandByteOf, operandsOf}
 use Rattle.commands.specs.declared.command.Command.{Command}
 
 pub data FitsRow : List Operand → List ℕ → Type 0 where

@@ -2,6 +2,7 @@ pub mod Every
 pub mod Number
 pub mod Rows
 pub mod Header
+pub mod Command
 pub mod Bytes
 pub mod Progress
 pub mod Cause

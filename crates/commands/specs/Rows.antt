@@ -1,6 +1,6 @@
 -- The table of commands: their operands with widths and ranges (document 01, "The ticket").
 -- Assumes nothing.
-use Prim.Native.Nat.{ℕ}
+use Prim.Native.Nat.{ℕ, _+_}
 use mathlib.Core.Bool.{Bool, true, _&&_}
 use mathlib.Core.List.{List, [], _∷_}
 use lib.Dec.{ltb, leb}
@@ -17,6 +17,11 @@ abbrev pub widthIn : Operand → ℕ
 widthIn (any w) = w
 widthIn (within w l m) = w
 widthIn (text w) = w
+
+-- how many bytes the operands of a row have
+abbrev pub sizeOf : List Operand → ℕ
+sizeOf [] = 0
+sizeOf (o ∷ os) = widthIn o + sizeOf os
 
 abbrev pub between : ℕ → ℕ → ℕ → Bool
 between l m v = leb l v && leb v m

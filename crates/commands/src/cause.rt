@@ -1,16 +1,20 @@
 // Document 01's causes 3 to 7, each as what must hold, and the first that does not.
 ghost use mathlib.Core.Path.{_≡_};
 ghost use Rattle.commands.specs.Rows.{between, printable};
+ghost use Rattle.commands.specs.inner.Table.{inRangeCode};
 ghost use Rattle.commands.specs.Number.{digits};
 ghost use Rattle.commands.specs.Cause.{stageOf, inOrder, rangesHold, startHolds, edgesHold, apart, separate, inside, commandCauseOf};
-use crate::command::Claim;
 use crate::command::Command;
+use crate::command::byte_of;
+use crate::command::operands_of;
 use crate::header::Header;
 use crate::header::Window;
 use crate::header::WindowKind;
 use crate::header::holds;
 use crate::header::past;
 use crate::progress::Progress;
+use crate::row::Operand;
+use crate::row::row_of;
 
 // How many of $01 to $04 come before a window.
 fn stage_of(k: WindowKind) -> u8
@@ -35,20 +39,20 @@ fn in_order(p: Progress, c: Command) -> bool
     }
 }
 
-fn between(least: u32, most: u32, v: u32) -> bool
+fn between(least: u64, most: u64, v: u64) -> bool
     ensures { λ r. ⌜ r ≡ between least most v ⌝ }
 {
     (least <= v) & (v <= most)
 }
 
-// Each of the eight bytes is $20 to $7E.
-fn printable(text: u64) -> bool
-    ensures { λ r. ⌜ r ≡ printable (digits 8 text) ⌝ }
+// Each byte of a text is $20 to $7E.
+fn printable(text: u64, width: usize) -> bool
+    ensures { λ r. ⌜ r ≡ printable (digits width text) ⌝ }
 {
     let mut t = text;
-    let mut left: u8 = 8;
+    let mut left = width;
     while 0 < left {
-        let b = (t % 256) as u32;
+        let b = t % 256;
         if !between(0x20, 0x7e, b) {
             return false;
         }
@@ -58,37 +62,27 @@ fn printable(text: u64) -> bool
     true
 }
 
-fn window_holds(k: WindowKind, w: Window) -> bool
-    ensures { λ r. ⌜ r ≡ rangesHold (Command.Window k w) ⌝ }
+fn in_range(o: Operand, v: u64) -> bool
+    ensures { λ r. ⌜ r ≡ inRangeCode o v ⌝ }
 {
-    let n = w.length as u32;
-    match k {
-        WindowKind::Code => between(1, 4096, n),
-        WindowKind::Data => between(0, 8192, n),
-        WindowKind::Stack => between(2, 1024, n),
+    if o.text {
+        printable(v, o.width)
+    } else {
+        between(o.least, o.most, v)
     }
-}
-
-fn claim_holds(k: Claim) -> bool
-    ensures { λ r. ⌜ r ≡ rangesHold (Command.Mark 0 k) ⌝ }
-{
-    let cost = k.cost;
-    let depth = k.depth;
-    let need = k.need;
-    between(0, 2000000, cost.0)
-        & (between(0, 1022, depth.0 as u32) & between(0, 1022, need.0 as u32))
 }
 
 fn ranges_hold(c: Command) -> bool
     ensures { λ r. ⌜ r ≡ rangesHold c ⌝ }
 {
-    match c {
-        Command::Window(k, w) => window_holds(k, w),
-        Command::Entry(_, l) => between(1, 2000000, l.0),
-        Command::Mark(_, k) => claim_holds(k),
-        Command::Name(_, t) => printable(t),
-        Command::End => true,
-    }
+    let v = operands_of(c);
+    let row = row_of(byte_of(c));
+    let first = row.first;
+    let second = row.second;
+    let third = row.third;
+    let fourth = row.fourth;
+    in_range(first, v.first)
+        & (in_range(second, v.second) & (in_range(third, v.third) & in_range(fourth, v.fourth)))
 }
 
 fn start_holds(k: WindowKind, start: u16) -> bool

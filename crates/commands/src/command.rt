@@ -1,4 +1,10 @@
-// The commands of a ticket (document 01, "The ticket").
+// The commands of a ticket, and the operands of each (document 01, "The ticket").
+ghost use mathlib.Core.Path.{_≡_};
+ghost use Prim.Native.Nat.{_<_};
+ghost use lib.ListN.{length};
+ghost use Rattle.commands.specs.Rows.{rows, rowOf};
+ghost use Rattle.commands.specs.Command.{commandByteOf, operandsOf, commandWith, windowByteOf, windowOf};
+ghost use Rattle.commands.specs.inner.Table.{codeRow, codeValues, valuesOf, FitsCode};
 use crate::header::Window;
 use crate::header::WindowKind;
 use registers::Cycles;
@@ -18,4 +24,101 @@ pub enum Command {
     Mark(u16, Claim),
     Name(u16, u64),
     End,
+}
+
+// The operands of a command, in the order of its row; those that it lacks are 0.
+pub struct Operands {
+    pub first: u64,
+    pub second: u64,
+    pub third: u64,
+    pub fourth: u64,
+}
+
+fn window_byte(k: WindowKind) -> u8
+    ensures { λ r. ⌜ r ≡ windowByteOf k ⌝ }
+{
+    match k {
+        WindowKind::Code => 0x01,
+        WindowKind::Data => 0x02,
+        WindowKind::Stack => 0x03,
+    }
+}
+
+pub fn byte_of(c: Command) -> u8
+    ensures { λ r. ⌜ r ≡ commandByteOf c ⌝ }
+{
+    match c {
+        Command::End => 0x00,
+        Command::Window(k, _) => window_byte(k),
+        Command::Entry(_, _) => 0x04,
+        Command::Mark(_, _) => 0x05,
+        Command::Name(_, _) => 0x06,
+    }
+}
+
+fn pair(first: u64, second: u64) -> Operands
+    ensures { λ r. ⌜ r ≡ record { first = first; second = second; third = 0; fourth = 0 } ⌝ }
+{
+    Operands {
+        first,
+        second,
+        third: 0,
+        fourth: 0,
+    }
+}
+
+// The operands of a command.
+pub fn operands_of(c: Command) -> Operands
+    ensures { λ r. ⌜ r ≡ codeValues (operandsOf c) ⌝ }
+{
+    match c {
+        Command::End => pair(0, 0),
+        Command::Window(_, w) => pair(w.start as u64, w.length as u64),
+        Command::Entry(a, l) => pair(a as u64, l.0 as u64),
+        Command::Mark(a, k) => {
+            let cost = k.cost;
+            let depth = k.depth;
+            let need = k.need;
+            Operands {
+                first: a as u64,
+                second: cost.0 as u64,
+                third: depth.0 as u64,
+                fourth: need.0 as u64,
+            }
+        }
+        Command::Name(a, t) => pair(a as u64, t),
+    }
+}
+
+fn window(v: Operands) -> Window
+    requires { ⌜ (v .first < 65536) × (v .second < 65536) ⌝ }
+    ensures { λ r. ⌜ r ≡ windowOf (valuesOf v) ⌝ }
+{
+    Window {
+        start: v.first as u16,
+        length: v.second as u16,
+    }
+}
+
+// The command of a byte and its operands.
+pub fn command_with(b: u8, v: Operands) -> Command
+    requires { ⌜ (b < length rows) × FitsCode (codeRow (rowOf b)) v ⌝ }
+    ensures { λ r. ⌜ r ≡ commandWith b (valuesOf v) ⌝ }
+{
+    match b {
+        0x00 => Command::End,
+        0x01 => Command::Window(WindowKind::Code, window(v)),
+        0x02 => Command::Window(WindowKind::Data, window(v)),
+        0x03 => Command::Window(WindowKind::Stack, window(v)),
+        0x04 => Command::Entry(v.first as u16, Cycles(v.second as u32)),
+        0x05 => Command::Mark(
+            v.first as u16,
+            Claim {
+                cost: Cycles(v.second as u32),
+                depth: StackBytes(v.third as u16),
+                need: StackBytes(v.fourth as u16),
+            },
+        ),
+        _ => Command::Name(v.first as u16, v.second),
+    }
 }

@@ -1,18 +1,17 @@
-// A command of the bytes that a ticket has left.
+// The command that bytes begin with: its byte, then its operands by the widths of its row.
 ghost use mathlib.Core.Path.{_≡_};
 ghost use Prim.Native.Nat.{_<_, _≤_};
 ghost use lib.ListN.{length};
-ghost use Rattle.commands.specs.Bytes.{parseOf, commandOf, windowOf, claimOf, operandsIn, sizeOf};
-ghost use Rattle.commands.specs.Rows.{rowOf};
-use crate::command::Claim;
+ghost use Rattle.commands.specs.Rows.{rows, rowOf, sizeOf};
+ghost use Rattle.commands.specs.Bytes.{parseOf, operandsIn};
+ghost use Rattle.commands.specs.inner.Table.{codeRow, codeValues, FitsCode};
 use crate::command::Command;
-use crate::header::Window;
-use crate::header::WindowKind;
-use crate::number::long;
-use crate::number::text;
-use crate::number::word;
-use registers::Cycles;
-use registers::StackBytes;
+use crate::command::Operands;
+use crate::command::command_with;
+use crate::number::number;
+use crate::row::COMMANDS;
+use crate::row::row_of;
+use crate::row::size;
 
 // What bytes begin with.
 pub enum Parsed {
@@ -21,54 +20,24 @@ pub enum Parsed {
     Found(Command),
 }
 
-// How many bytes the operands of a command byte have.
-fn size(b: u8) -> usize
-    requires { ⌜ b < 7 ⌝ }
-    ensures { λ r. ⌜ r ≡ sizeOf (rowOf b) ⌝ }
+// The operands of a command byte that the bytes after it begin with.
+fn operands_in(b: u8, s: &[u8]) -> Operands
+    requires { ⌜ (b < length rows) × (sizeOf (rowOf b) ≤ length (now s)) ⌝ }
+    ensures { λ r. ⌜ (r ≡ codeValues (operandsIn (rowOf b) (now (s .entry)))) × FitsCode (codeRow (rowOf b)) r ⌝ }
 {
-    match b {
-        0 => 0,
-        4 => 6,
-        5 => 10,
-        6 => 10,
-        _ => 4,
-    }
-}
-
-fn window(s: &[u8]) -> Window
-    requires { ⌜ 4 ≤ length (now s) ⌝ }
-    ensures { λ r. ⌜ r ≡ windowOf (operandsIn (rowOf 1) (now (s .entry))) ⌝ }
-{
-    Window {
-        start: word(s, 0),
-        length: word(s, 2),
-    }
-}
-
-fn claim(s: &[u8]) -> Claim
-    requires { ⌜ 10 ≤ length (now s) ⌝ }
-    ensures { λ r. ⌜ r ≡ claimOf (operandsIn (rowOf 5) (now (s .entry))) ⌝ }
-{
-    Claim {
-        cost: Cycles(long(s, 2)),
-        depth: StackBytes(word(s, 6)),
-        need: StackBytes(word(s, 8)),
-    }
-}
-
-// The command of a known byte, with the operands that the bytes after it begin with.
-fn command(b: u8, s: &[u8]) -> Command
-    requires { ⌜ (b < 7) × (sizeOf (rowOf b) ≤ length (now s)) ⌝ }
-    ensures { λ r. ⌜ r ≡ commandOf b (now (s .entry)) ⌝ }
-{
-    match b {
-        0 => Command::End,
-        1 => Command::Window(WindowKind::Code, window(s)),
-        2 => Command::Window(WindowKind::Data, window(s)),
-        3 => Command::Window(WindowKind::Stack, window(s)),
-        4 => Command::Entry(word(s, 0), Cycles(long(s, 2))),
-        5 => Command::Mark(word(s, 0), claim(s)),
-        _ => Command::Name(word(s, 0), text(s, 2)),
+    let row = row_of(b);
+    let first = row.first;
+    let second = row.second;
+    let third = row.third;
+    let fourth = row.fourth;
+    let to_second = first.width;
+    let to_third = to_second + second.width;
+    let to_fourth = to_third + third.width;
+    Operands {
+        first: number(s, 0, first.width),
+        second: number(s, to_second, second.width),
+        third: number(s, to_third, third.width),
+        fourth: number(s, to_fourth, fourth.width),
     }
 }
 
@@ -79,11 +48,11 @@ pub fn parse(s: &[u8]) -> Parsed
         return Parsed::Cut;
     }
     let b = s[0];
-    if 6 < b {
+    if COMMANDS <= b {
         return Parsed::Unknown;
     }
     if s.len() - 1 < size(b) {
         return Parsed::Cut;
     }
-    Parsed::Found(command(b, &s[1..]))
+    Parsed::Found(command_with(b, operands_in(b, &s[1..])))
 }

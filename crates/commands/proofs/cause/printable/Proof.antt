@@ -11,10 +11,10 @@ use Rattle.commands.proofs.cause.printable.Statement.{statement}
 use Rattle.commands.proofs.cause.printable.Tie as tie
 
 abbrev Inv-loop : tie.InvT-loop
-Inv-loop text t₀ left₀ t left = printable (digits left t) ≡ printable (digits 8 text)
+Inv-loop text width t₀ left₀ t left = printable (digits left t) ≡ printable (digits width text)
 
 abbrev μ-loop : tie.MeasureT-loop
-μ-loop text t₀ left₀ t left = left
+μ-loop text width t₀ left₀ t left = left
 
 returns : tie.Need-returns Inv-loop μ-loop
 returns c =
@@ -35,7 +35,7 @@ pub printable-spec : {M : Type 1} → statement M
 printable-spec =
     tie.close
     (tie.spec Inv-loop μ-loop
-    (λ c. refl) (search needs) (search needs)
+    (λ c. refl) (search needs)
     returns (search needs) (search needs)
     loop-again
     returns-2)

@@ -1,13 +1,16 @@
--- `parse::parse` meets its contract: the slice is its first byte and the part after it, which is lent to `command`.
+-- `parse::parse` meets its contract: the slice is its first byte and the part after it, which is lent to `operands_in`.
 -- Assumes nothing.
 use mathlib.Core.Path.{_≡_, sym, ap, _∙_}
-use Prim.Native.Nat.{_-_}
+use Prim.Native.Nat.{_-_, _<_}
 use borrow.Author.Needs.{needs}
 use borrow.Author.Tests.{lt-ltb, le-ltb, le-leb, lt-leb}
 use native.Mathlib.Omega.{arith}
 use lib.ListN.{length, getD, take, drop, length-drop}
 use lib.Seq.{take-all, drop-cons}
-use Rattle.commands.specs.Bytes.{parseOf}
+use Rattle.commands.specs.Bytes.{commandOf, parseOf}
+use Rattle.commands.specs.Command.{commandWith}
+use Rattle.commands.specs.inner.Table.{valuesOf}
+use Rattle.commands.specs.declared.command.Operands.{Operands}
 use Rattle.commands.proofs.parse.parse.Statement.{statement}
 use Rattle.commands.proofs.parse.parse.Tie as tie
 
@@ -30,19 +33,20 @@ returns-3 c =
     ∙ simp (lt-ltb (getD s 0 0) 7 (omega arith), ← c .before .size .ensures, length-drop, lt-leb _ _ (c .if3 .taken)))
 
 returns-4 : tie.Need-returns-4
-unfolding parseOf
+unfolding parseOf commandOf
 returns-4 c =
-    let s = c .before .before .before .before .before .before .before .before .args .s .now in
+    let s = c .before .before .before .before .before .before .before .before .before .args .s .now in
     let part : take (length s - 1) (drop 1 s) ≡ drop 1 s = take-all (length s - 1) (drop 1 s) (omega (arith, length-drop 1 s)) in
+    let ops = rw part at (c .before .operands-in .ensures .0) in
+    let made : c .command-with .result ≡ commandOf (getD s 0 0) (drop 1 s) = c .command-with .ensures ∙ ap (λ (v : Operands). commandWith (getD s 0 0) (valuesOf v)) ops in
     sym (
     ap parseOf (drop-cons s 0 0 (omega arith))
     ∙ simp (
       lt-ltb (getD s 0 0) 7 (omega arith),
-      ← c .before .before .before .size .ensures,
+      ← c .before .before .before .before .size .ensures,
       length-drop,
-      le-leb _ _ (c .before .before .if3 .left),
-      c .command .ensures,
-      part,
+      le-leb _ _ (c .before .before .before .if3 .left),
+      made,
     ))
 
 pub parse-spec : {M : Type 1} → statement M
@@ -53,10 +57,16 @@ parse-spec =
     (search needs)
     returns-2
     (search needs)
-    (search needs)
+    (λ c κs. let known : getD (c .before .before .before .before .args .s .now) 0 0 < 7 = omega arith in known)
     returns-3
     (search needs)
     (search needs)
     (search needs)
-    (search needs)
+    (λ c κs.
+    let s = c .before .before .before .before .before .before .before .args .s .now in
+    let known : getD s 0 0 < 7 = omega arith in
+    (known, omega (arith, length-drop 1 s, c .before .before .size .ensures)))
+    (λ c κs.
+    let known : getD (c .before .before .before .before .before .before .before .before .args .s .now) 0 0 < 7 = omega arith in
+    (known, c .operands-in .ensures .1))
     returns-4)

@@ -1,12 +1,12 @@
--- `number::text` meets its contract.
+-- `number::quad` meets its contract.
 -- Assumes nothing.
 use borrow.Author.Needs.{needs}
 use Rattle.commands.proofs.Pieces.{halves}
-use Rattle.commands.proofs.number.text.Statement.{statement}
-use Rattle.commands.proofs.number.text.Tie as tie
+use Rattle.commands.proofs.number.quad.Statement.{statement}
+use Rattle.commands.proofs.number.quad.Tie as tie
 
-pub text-spec : {M : Type 1} → statement M
-text-spec =
+pub quad-spec : {M : Type 1} → statement M
+quad-spec =
     tie.close
     (tie.spec
     (search needs)

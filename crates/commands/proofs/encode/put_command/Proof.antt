@@ -1,0 +1,95 @@
+-- `encode::put_command` puts the command's byte, and then four operands for those of its row.
+-- Assumes nothing.
+use mathlib.Core.Path.{_≡_, ap, _∙_}
+use Prim.Native.Nat.{ℕ, _+_, _≤_}
+use mathlib.Core.List.{List, _∷_, _++_}
+use borrow.Author.Needs.{needs}
+use borrow.Author.Tests.{ltb-true}
+use native.Mathlib.Omega.{arith}
+use lib.ListN.{length, length-set, length-append}
+use Rattle.lists.specs.Splice.{spliced}
+use Rattle.commands.specs.Number.{digits}
+use Rattle.commands.specs.Rows.{rowOf, sizeOf}
+use Rattle.commands.specs.Bytes.{joined, encodeOf, widthOf}
+use Rattle.commands.specs.Command.{commandByteOf, operandsOf}
+use Rattle.commands.specs.declared.command.Command.{Command}
+use Rattle.commands.specs.declared.row.Row.{Row as CodeRow}
+use Rattle.commands.specs.inner.Table.{codeRow, Width}
+use Rattle.commands.proofs.Coding.{said}
+use Rattle.commands.specs.declared.command.Operands.{Operands}
+use Rattle.commands.proofs.Put.{placed-byte}
+use Rattle.commands.proofs.Digits.{length-digits}
+use Rattle.lists.proofs.Splice.{placed-next}
+use Rattle.commands.proofs.Table.{row-sizes, row-widths, row-joined}
+use Rattle.commands.proofs.encode.put_command.Statement.{statement}
+use Rattle.commands.proofs.encode.put_command.Tie as tie
+
+row-of-requires : tie.Need-row-of-requires
+row-of-requires c κs = rw (c .before .byte-of .ensures) (ltb-true _ _ (said (c .before .before .before .args .c) .known-byte))
+
+cons : {x y : ℕ} {s t : List ℕ} → x ≡ y → s ≡ t → x ∷ s ≡ y ∷ t
+cons e f = rw (e, f)
+
+-- the command's row
+module _ (r : tie.After-row-of) where
+  abbrev command : Command
+  command = r .before .before .before .before .args .c
+
+  abbrev row : CodeRow
+  row = r .row-of .result
+
+  abbrev values : Operands
+  values = r .before .operands-of .result
+
+  is-row : row ≡ codeRow (rowOf (commandByteOf command))
+  is-row = rw (r .before .before .byte-of .ensures) at (r .row-of .ensures)
+
+  sizes : row .first .width + row .second .width + row .third .width + row .fourth .width ≡ sizeOf (rowOf (commandByteOf command))
+  sizes = row-sizes (commandByteOf command) row is-row
+
+  widths : Width (row .first .width) × Width (row .second .width) × Width (row .third .width) × Width (row .fourth .width)
+  widths = row-widths (commandByteOf command) row is-row
+
+  -- there is room for the byte and the four operands
+  room : r .before .before .before .before .args .at + 1 + row .first .width + row .second .width + row .third .width + row .fourth .width ≤ length (r .before .before .before .before .args .out .now)
+  unfolding widthOf
+  room = omega (arith, sizes)
+
+  encoded :
+      r .before .before .byte-of .result
+      ∷ ((digits (row .first .width) (values .first) ++ digits (row .second .width) (values .second)) ++ (digits (row .third .width) (values .third) ++ digits (row .fourth .width) (values .fourth)))
+      ≡ encodeOf command
+  unfolding encodeOf
+  encoded = cons (r .before .before .byte-of .ensures) (row-joined (commandByteOf command) row is-row (operandsOf command) (said command .as-many) values (r .before .operands-of .ensures))
+
+  whole : r .before .before .before .before .args .at + 1 + row .first .width + row .second .width + row .third .width + row .fourth .width ≡ r .before .before .before .before .args .at + widthOf command
+  unfolding widthOf
+  whole = omega (arith, sizes)
+
+returns : tie.Need-returns
+returns c =
+    let r = c .before .before .before .before .before .before .before .before .before .before .before .before in
+    let a = r .before .before .before .before .args in
+    let w = row r in
+    let v = values r in
+    let n₁ = c .before .before .before .before .before .before .put-pair in
+    let n₂ = c .before .before .put-pair2 in
+    let fits = room r in
+    let p₀ = placed-byte (a .out .now) (a .at) (r .before .before .byte-of .result) (omega arith) in
+    let p₁ = placed-next {m = n₁ .result} p₀ (omega arith) (digits (w .first .width) (v .first) ++ digits (w .second .width) (v .second)) (n₁ .ensures .0, simp (length-append, length-digits) (omega arith)) in
+    let p₂ = placed-next {m = n₂ .result} p₁ (omega arith) (digits (w .third .width) (v .third) ++ digits (w .fourth .width) (v .fourth)) (n₂ .ensures .0, simp (length-append, length-digits) (omega arith)) in
+    (p₂ .bytes ∙ ap (λ (s : List ℕ). spliced (a .out .now) (a .at) s) (encoded r), omega (arith, whole r))
+
+pub put-command-spec : {M : Type 1} → statement M
+put-command-spec =
+    tie.close
+    (tie.spec
+    (search needs)
+    (search needs)
+    row-of-requires
+    (λ c. omega (arith, room (c .before .before .before .before)))
+    (search needs)
+    (λ c κs. let r = c .before .before .before .before .before in (widths r .0, widths r .1, simp length-set (omega (arith, room r))))
+    (λ c κs. let r = c .before .before .before .before .before .before .before .before .before in (widths r .2, widths r .3, omega (arith, room r, length-set (r .before .before .before .before .args .out .now) (r .before .before .before .before .args .at) (r .before .before .byte-of .result))))
+    (λ c. let r = c .before .before .before .before .before .before .before .before .before .before .before .before in omega (arith, length-set (r .before .before .before .before .args .out .now) (r .before .before .before .before .args .at) (r .before .before .byte-of .result)))
+    returns)

@@ -1,0 +1,60 @@
+-- The table of commands as the code has it: rows of four operands, those that a command lacks without bytes.
+-- Assumes nothing.
+use Prim.Native.Nat.{ℕ, zero, suc, _^_, _<_}
+use mathlib.Core.Path.{_≡_}
+use mathlib.Core.Bool.{Bool, true, false, cond, _&&_, _||_}
+use mathlib.Core.List.{List, [], _∷_}
+use lib.Dec.{eqb, leb}
+use lib.ListN.{getD, length}
+use Rattle.commands.specs.Number.{digits}
+use Rattle.commands.specs.Rows.{Operand, any, within, text, widthIn, between, printable, rowOf, sizeOf}
+use Rattle.commands.specs.declared.row.Operand.{Operand as CodeOperand}
+use Rattle.commands.specs.declared.row.Row.{Row as CodeRow}
+use Rattle.commands.specs.declared.command.Operands.{Operands}
+
+abbrev pub codeOperand : Operand → CodeOperand
+codeOperand (any w) = record { width = w; least = 0; most = 0xffffffffffffffff; text = false }
+codeOperand (within w l m) = record { width = w; least = l; most = m; text = false }
+codeOperand (text w) = record { width = w; least = 0; most = 0xffffffffffffffff; text = true }
+
+abbrev pub absent : CodeOperand
+absent = record { width = 0; least = 0; most = 0; text = false }
+
+abbrev pub operandAt : List Operand → ℕ → CodeOperand
+operandAt [] i = absent
+operandAt (o ∷ os) zero = codeOperand o
+operandAt (o ∷ os) (suc i) = operandAt os i
+
+abbrev pub codeRow : List Operand → CodeRow
+codeRow os =
+    record { first = operandAt os 0; second = operandAt os 1; third = operandAt os 2; fourth = operandAt os 3 }
+
+abbrev pub codeRows : List (List Operand) → List CodeRow
+codeRows [] = []
+codeRows (os ∷ rs) = codeRow os ∷ codeRows rs
+
+-- some values as the code has them
+abbrev pub codeValues : List ℕ → Operands
+codeValues vs = record { first = getD vs 0 0; second = getD vs 1 0; third = getD vs 2 0; fourth = getD vs 3 0 }
+
+abbrev pub valuesOf : Operands → List ℕ
+valuesOf v = v .first ∷ v .second ∷ v .third ∷ v .fourth ∷ []
+
+-- each value fits its width
+abbrev pub FitsCode : CodeRow → Operands → Type 0
+FitsCode r v =
+    (v .first < 256 ^ r .first .width)
+    × (v .second < 256 ^ r .second .width)
+    × (v .third < 256 ^ r .third .width)
+    × (v .fourth < 256 ^ r .fourth .width)
+
+-- a value is in the range of the code's operand
+abbrev pub inRangeCode : CodeOperand → ℕ → Bool
+inRangeCode o v = cond (o .text) (printable (digits (o .width) v)) (between (o .least) (o .most) v)
+
+-- the widths that the code reads and writes
+pub data Width : ℕ → Type 0 where
+  none : Width 0
+  word : Width 2
+  long : Width 4
+  quad : Width 8

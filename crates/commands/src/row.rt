@@ -1,0 +1,119 @@
+// The table of commands (document 01, "The ticket"): the operands of each, with their widths and ranges, by its byte.
+ghost use mathlib.Core.Path.{_≡_};
+ghost use Prim.Native.Nat.{_<_};
+ghost use lib.ListN.{length};
+ghost use Rattle.commands.specs.Rows.{rows, rowOf, sizeOf};
+ghost use Rattle.commands.specs.inner.Table.{codeRow};
+
+// A number of `width` bytes from `least` to `most`, or a text, each byte of which is $20 to $7E.
+pub struct Operand {
+    pub width: usize,
+    pub least: u64,
+    pub most: u64,
+    pub text: bool,
+}
+
+// A command has at most four operands; those that it lacks have no bytes.
+pub struct Row {
+    pub first: Operand,
+    pub second: Operand,
+    pub third: Operand,
+    pub fourth: Operand,
+}
+
+// The command bytes are those below it.
+pub const COMMANDS: u8 = 7;
+
+const ABSENT: Operand = Operand {
+    width: 0,
+    least: 0,
+    most: 0,
+    text: false,
+};
+
+const ADDRESS: Operand = Operand {
+    width: 2,
+    least: 0,
+    most: 0xffffffffffffffff,
+    text: false,
+};
+
+const CODE_LENGTH: Operand = Operand {
+    width: 2,
+    least: 1,
+    most: 4096,
+    text: false,
+};
+
+const DATA_LENGTH: Operand = Operand {
+    width: 2,
+    least: 0,
+    most: 8192,
+    text: false,
+};
+
+const STACK_LENGTH: Operand = Operand {
+    width: 2,
+    least: 2,
+    most: 1024,
+    text: false,
+};
+
+const LIMIT: Operand = Operand {
+    width: 4,
+    least: 1,
+    most: 2000000,
+    text: false,
+};
+
+const COST: Operand = Operand {
+    width: 4,
+    least: 0,
+    most: 2000000,
+    text: false,
+};
+
+const STACK_BYTES: Operand = Operand {
+    width: 2,
+    least: 0,
+    most: 1022,
+    text: false,
+};
+
+const TEXT: Operand = Operand {
+    width: 8,
+    least: 0,
+    most: 0xffffffffffffffff,
+    text: true,
+};
+
+#[rattlefmt::skip]
+const ROWS: [Row; 7] = [
+    Row { first: ABSENT, second: ABSENT, third: ABSENT, fourth: ABSENT }, // $00 end
+    Row { first: ADDRESS, second: CODE_LENGTH, third: ABSENT, fourth: ABSENT }, // $01 code window
+    Row { first: ADDRESS, second: DATA_LENGTH, third: ABSENT, fourth: ABSENT }, // $02 data window
+    Row { first: ADDRESS, second: STACK_LENGTH, third: ABSENT, fourth: ABSENT }, // $03 stack window
+    Row { first: ADDRESS, second: LIMIT, third: ABSENT, fourth: ABSENT }, // $04 entry
+    Row { first: ADDRESS, second: COST, third: STACK_BYTES, fourth: STACK_BYTES }, // $05 mark
+    Row { first: ADDRESS, second: TEXT, third: ABSENT, fourth: ABSENT }, // $06 name
+];
+
+pub fn row_of(b: u8) -> Row
+    requires { ⌜ b < length rows ⌝ }
+    ensures { λ r. ⌜ r ≡ codeRow (rowOf b) ⌝ }
+{
+    ROWS[b as usize]
+}
+
+// How many bytes the operands of a command byte have.
+pub fn size(b: u8) -> usize
+    requires { ⌜ b < length rows ⌝ }
+    ensures { λ r. ⌜ r ≡ sizeOf (rowOf b) ⌝ }
+{
+    let row = row_of(b);
+    let first = row.first;
+    let second = row.second;
+    let third = row.third;
+    let fourth = row.fourth;
+    first.width + second.width + third.width + fourth.width
+}
