@@ -16,14 +16,9 @@ use Rattle.commands.specs.Bytes.{joined, operandsIn}
 use Rattle.commands.specs.Cause.{allInRange}
 use Rattle.commands.specs.declared.row.Row.{Row as CodeRow}
 use Rattle.commands.specs.declared.command.Operands.{Operands}
-use Rattle.commands.specs.inner.Table.{codeOperand, operandAt, codeRow, codeRows, codeValues, FitsCode, inRangeCode, Width, none, word, long, quad}
+use Rattle.commands.specs.inner.Table.{codeOperand, operandAt, codeRow, codeValues, FitsCode, inRangeCode, Width, none, word, long, quad}
 
 -- ---- the rows
-
-pub row-code : (rs : List (List Operand)) (b : ℕ) → getD (codeRows rs) b (codeRow []) ≡ codeRow (getD rs b [])
-row-code [] b = refl
-row-code (os ∷ rs) zero = refl
-row-code (os ∷ rs) (suc b) = row-code rs b
 
 -- a width that the code reads and writes
 wide : ℕ → Bool

@@ -88,21 +88,19 @@ const TEXT: Operand = Operand {
 };
 
 #[rattlefmt::skip]
-const ROWS: [Row; 7] = [
-    Row { first: ABSENT, second: ABSENT, third: ABSENT, fourth: ABSENT }, // $00 end
-    Row { first: ADDRESS, second: CODE_LENGTH, third: ABSENT, fourth: ABSENT }, // $01 code window
-    Row { first: ADDRESS, second: DATA_LENGTH, third: ABSENT, fourth: ABSENT }, // $02 data window
-    Row { first: ADDRESS, second: STACK_LENGTH, third: ABSENT, fourth: ABSENT }, // $03 stack window
-    Row { first: ADDRESS, second: LIMIT, third: ABSENT, fourth: ABSENT }, // $04 entry
-    Row { first: ADDRESS, second: COST, third: STACK_BYTES, fourth: STACK_BYTES }, // $05 mark
-    Row { first: ADDRESS, second: TEXT, third: ABSENT, fourth: ABSENT }, // $06 name
-];
-
 pub fn row_of(b: u8) -> Row
     requires { ⌜ b < length rows ⌝ }
     ensures { λ r. ⌜ r ≡ codeRow (rowOf b) ⌝ }
 {
-    ROWS[b as usize]
+    match b {
+        0x00 => Row { first: ABSENT, second: ABSENT, third: ABSENT, fourth: ABSENT }, // end
+        0x01 => Row { first: ADDRESS, second: CODE_LENGTH, third: ABSENT, fourth: ABSENT }, // code window
+        0x02 => Row { first: ADDRESS, second: DATA_LENGTH, third: ABSENT, fourth: ABSENT }, // data window
+        0x03 => Row { first: ADDRESS, second: STACK_LENGTH, third: ABSENT, fourth: ABSENT }, // stack window
+        0x04 => Row { first: ADDRESS, second: LIMIT, third: ABSENT, fourth: ABSENT }, // entry
+        0x05 => Row { first: ADDRESS, second: COST, third: STACK_BYTES, fourth: STACK_BYTES }, // mark
+        _ => Row { first: ADDRESS, second: TEXT, third: ABSENT, fourth: ABSENT }, // $06 name
+    }
 }
 
 // How many bytes the operands of a command byte have.

@@ -2,7 +2,6 @@
 ghost use mathlib.Core.Path.{_≡_};
 ghost use Prim.Native.Nat.{_+_, _≤_};
 ghost use lib.ListN.{length};
-ghost use Rattle.commands.specs.Bytes.{encodeOf, widthOf};
 ghost use Rattle.commands.specs.inner.Sound.{SoundSoFar};
 ghost use Rattle.commands.specs.Progress.{initialProgress};
 ghost use Rattle.ticket.specs.Fields.{fieldsOf, markIndex};
@@ -15,7 +14,7 @@ use crate::fields::Ticket;
 use commands::admit::Admitted;
 use commands::admit::then;
 use commands::command::Command;
-use commands::encode::encode;
+use commands::encode::put_command;
 use commands::header::Header;
 use commands::header::WindowKind;
 use commands::progress::initial;
@@ -72,22 +71,6 @@ pub fn check(t: Ticket) -> Admitted
         i += 1;
     }
     then(a, Command::End)
-}
-
-// A command at an offset of the output; the offset after it.
-fn put_command(c: Command, out: &mut [u8], at: usize) -> usize
-    requires { ⌜ at + widthOf c ≤ length (now out) ⌝ }
-    ensures { λ r. ⌜ (now (out .exit) ≡ spliced (now (out .entry)) at (encodeOf c)) × (r ≡ at + widthOf c) ⌝ }
-{
-    let e = encode(c);
-    let bytes = e.bytes;
-    let width = e.width;
-    let mut i = 0;
-    while i < width {
-        out[at + i] = bytes[i];
-        i += 1;
-    }
-    at + width
 }
 
 fn put_header(h: Header, out: &mut [u8]) -> usize

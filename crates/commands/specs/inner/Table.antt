@@ -29,10 +29,6 @@ abbrev pub codeRow : List Operand → CodeRow
 codeRow os =
     record { first = operandAt os 0; second = operandAt os 1; third = operandAt os 2; fourth = operandAt os 3 }
 
-abbrev pub codeRows : List (List Operand) → List CodeRow
-codeRows [] = []
-codeRows (os ∷ rs) = codeRow os ∷ codeRows rs
-
 -- some values as the code has them
 abbrev pub codeValues : List ℕ → Operands
 codeValues vs = record { first = getD vs 0 0; second = getD vs 1 0; third = getD vs 2 0; fourth = getD vs 3 0 }

@@ -1,10 +1,23 @@
--- `row::row_of` meets its contract: the table is that of the definitions.
+-- `row::row_of` meets its contract: by the byte that was matched.
 -- Assumes nothing.
-use borrow.Author.Needs.{needs}
-use Rattle.commands.specs.Rows.{rows}
-use Rattle.commands.proofs.Table.{row-code}
+use mathlib.Core.Path.{_≡_}
+use Prim.Native.Nat.{_<_}
+use native.Mathlib.Omega.{arith}
 use Rattle.commands.proofs.row.row_of.Statement.{statement}
 use Rattle.commands.proofs.row.row_of.Tie as tie
 
+-- the byte without an arm of its own
+last : (c : tie.At-match-rest) → c .before .args .b ≡ 6
+last c = let known : c .before .args .b < 7 = c .before .pre in omega arith
+
 pub row-of-spec : {M : Type 1} → statement M
-row-of-spec = tie.close (tie.spec (search needs) (λ c. c .pre) (λ c. row-code rows (c .before .args .b)))
+row-of-spec =
+    tie.close
+    (tie.spec
+    (λ c. simp (c .match .keys1))
+    (λ c. simp (c .match .keys2))
+    (λ c. simp (c .match .keys3))
+    (λ c. simp (c .match .keys4))
+    (λ c. simp (c .match .keys5))
+    (λ c. simp (c .match .keys6))
+    (λ c. simp (last c)))
