@@ -73,11 +73,9 @@ unfolding widthOf
 width-most c = omega (arith, row-size (commandByteOf c))
 
 pub after-at : (p : Progress) (c : Command) → afterOf p c .at ≡ p .at + widthOf c
-unfolding afterOf widthOf
+unfolding afterOf
 after-at p Command.End = refl
-after-at p (Command.Window Code w) = refl
-after-at p (Command.Window Data w) = refl
-after-at p (Command.Window Stack w) = refl
+after-at p (Command.Window k w) = refl
 after-at p (Command.Entry a l) = refl
 after-at p (Command.Mark a m) = refl
 after-at p (Command.Name a t) = refl

@@ -10,6 +10,7 @@ use lib.Dec.{eqb, ltb, leb}
 use borrow.Author.Tests.{ltb-true, leb-true, eqb-true, ne-eqb}
 use Rattle.commands.specs.Rows.{between}
 use Rattle.lists.specs.Bit.{one}
+use Rattle.commands.specs.Bytes.{widthOf}
 use Rattle.commands.specs.Progress.{initialProgress, stagedOf, markedOf, namedOf, afterOf}
 use Rattle.commands.specs.inner.Sound.{Sound, SoundSoFar, stopped, sound}
 use Rattle.commands.specs.Header.{withWindow}
@@ -59,14 +60,14 @@ module _ (p : Progress) (s : Sound p) where
   to-entry h third small = let e = s .early (omega arith) in omega (arith, impossible)
 
   to-mark : (a : ℕ) → p .stage ≡ 4 → p .header .code .start ≤ a → a < p .header .code .start + p .header .code .length
-      → (1 ≤ p .count → p .last < a) → Sound (markedOf p a)
+      → (1 ≤ p .count → p .last < a) → Sound (markedOf p 11 a)
   to-mark a body from to rises =
       let l = s .late (omega arith) in
       let r : p .header .code .start + p .count ≤ a =
       ⊎-elim (λ z. omega arith) (λ o. omega (arith, s .rising o, rises o)) (eq-zero-or-pos (p .count)) in
       omega arith
 
-  to-name : p .stage ≡ 4 → p .nameable ≡ true → Sound (namedOf p)
+  to-name : p .stage ≡ 4 → p .nameable ≡ true → Sound (namedOf p 11)
   to-name body nameable =
       let l = s .late (omega arith) in
       let b = ap one nameable in
@@ -95,14 +96,15 @@ module _ (p : Progress) (s : Sound p) where
   rises : (a : ℕ) → (eqb (p .count) 0 || ltb (p .last) a) ≡ true → 1 ≤ p .count → p .last < a
   rises a e o = ltb-true (p .last) a (rw (ne-eqb (p .count) 0 (omega arith)) at e)
 
-  after-window : (k : WindowKind) (w : Window) → Allowed p (Command.Window k w) → Sound (stagedOf p 5 (withWindow k (p .header) w))
+  after-window : (k : WindowKind) (w : Window) → Allowed p (Command.Window k w) → Sound (afterOf p (Command.Window k w))
+  unfolding afterOf widthOf
   after-window Code w a =
       to-window _ (omega (arith, eqb-true (p .stage) 0 (a .ordered))) (short w (a .ranged))
   after-window Data w a = to-window _ (omega (arith, eqb-true (p .stage) 1 (a .ordered))) (s .small)
   after-window Stack w a = to-window _ (omega (arith, eqb-true (p .stage) 2 (a .ordered))) (s .small)
 
   after : (c : Command) → Allowed p c → Sound (afterOf p c)
-  unfolding afterOf
+  unfolding afterOf widthOf
   after (Command.Window k w) a = after-window k w a
   after (Command.Entry e l) a = to-entry _ (eqb-true _ _ (a .ordered)) (s .small)
   after (Command.Mark m k) a =

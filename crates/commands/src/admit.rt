@@ -8,6 +8,7 @@ ghost use Rattle.commands.specs.Cause.{commandCauseOf};
 ghost use Rattle.commands.specs.Admit.{admitOf, thenOf};
 use crate::cause::cause;
 use crate::command::Command;
+use crate::encode::width_of;
 use crate::header::Header;
 use crate::header::with_entry;
 use crate::header::with_window;
@@ -34,13 +35,13 @@ fn staged(p: Progress, width: u32, header: Header) -> Progress
     }
 }
 
-fn marked(p: Progress, a: u16) -> Progress
-    requires { ⌜ (p .at + 11 < 4294967296) × (p .count < 65535) ⌝ }
-    ensures { λ r. ⌜ r ≡ markedOf p a ⌝ }
+fn marked(p: Progress, width: u32, a: u16) -> Progress
+    requires { ⌜ (p .at + width < 4294967296) × (p .count < 65535) ⌝ }
+    ensures { λ r. ⌜ r ≡ markedOf p width a ⌝ }
 {
     let header = p.header;
     Progress {
-        at: p.at + 11,
+        at: p.at + width,
         stage: p.stage,
         header,
         count: p.count + 1,
@@ -49,13 +50,13 @@ fn marked(p: Progress, a: u16) -> Progress
     }
 }
 
-fn named(p: Progress) -> Progress
-    requires { ⌜ p .at + 11 < 4294967296 ⌝ }
-    ensures { λ r. ⌜ r ≡ namedOf p ⌝ }
+fn named(p: Progress, width: u32) -> Progress
+    requires { ⌜ p .at + width < 4294967296 ⌝ }
+    ensures { λ r. ⌜ r ≡ namedOf p width ⌝ }
 {
     let header = p.header;
     Progress {
-        at: p.at + 11,
+        at: p.at + width,
         stage: p.stage,
         header,
         count: p.count,
@@ -69,12 +70,13 @@ fn after(p: Progress, c: Command) -> Progress
     ensures { λ r. ⌜ r ≡ afterOf p c ⌝ }
 {
     let h = p.header;
+    let width = width_of(c);
     match c {
-        Command::Window(k, w) => staged(p, 5, with_window(h, k, w)),
-        Command::Entry(a, l) => staged(p, 7, with_entry(h, a, l)),
-        Command::Mark(a, _) => marked(p, a),
-        Command::Name(_, _) => named(p),
-        Command::End => staged(p, 1, h),
+        Command::Window(k, w) => staged(p, width, with_window(h, k, w)),
+        Command::Entry(a, l) => staged(p, width, with_entry(h, a, l)),
+        Command::Mark(a, _) => marked(p, width, a),
+        Command::Name(_, _) => named(p, width),
+        Command::End => staged(p, width, h),
     }
 }
 

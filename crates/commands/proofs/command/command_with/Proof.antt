@@ -2,14 +2,23 @@
 -- Assumes nothing.
 use mathlib.Core.Path.{_≡_}
 use Prim.Native.Nat.{_<_}
-use borrow.Author.Needs.{needs}
 use native.Mathlib.Omega.{arith}
 use Rattle.commands.proofs.command.command_with.Statement.{statement}
 use Rattle.commands.proofs.command.command_with.Tie as tie
 
+entry-fits : (c : tie.At-match-keys5) → let v = c .before .args .v in (v .first < 65536) × (v .second < 4294967296)
+entry-fits c = let f = rw (c .match .keys5) at (c .before .pre .1) in (f .0, f .1)
+
+mark-fits : (c : tie.At-match-keys6) → let v = c .before .args .v in
+    (v .first < 65536) × (v .second < 4294967296) × (v .third < 65536) × (v .fourth < 65536)
+mark-fits c = rw (c .match .keys6) at (c .before .pre .1)
+
 -- the byte without an arm of its own
 last : (c : tie.At-match-rest) → c .before .args .b ≡ 6
 last c = let known : c .before .args .b < 7 = c .before .pre .0 in omega arith
+
+name-fits : (c : tie.At-match-rest) → c .before .args .v .first < 65536
+name-fits c = let f = rw (last c) at (c .before .pre .1) in f .0
 
 pub command-with-spec : {M : Type 1} → statement M
 command-with-spec =
@@ -18,13 +27,13 @@ command-with-spec =
     (λ c κs. let f = rw (c .match .keys2) at (c .before .pre .1) in (f .0, f .1))
     (λ c κs. let f = rw (c .match .keys3) at (c .before .pre .1) in (f .0, f .1))
     (λ c κs. let f = rw (c .match .keys4) at (c .before .pre .1) in (f .0, f .1))
-    (λ c. let f = rw (c .before .match .keys5) at (c .before .before .pre .1) in let h : c .before .before .args .v .first < 65536 = f .0 in omega arith)
-    (λ c. let f = rw (c .before .before .match .keys5) at (c .before .before .before .pre .1) in let h : c .before .before .before .args .v .second < 4294967296 = f .1 in omega arith)
-    (λ c. let f = rw (c .before .match .keys6) at (c .before .before .pre .1) in let h : c .before .before .args .v .first < 65536 = f .0 in omega arith)
-    (λ c. let f = rw (c .before .before .match .keys6) at (c .before .before .before .pre .1) in let h : c .before .before .before .args .v .second < 4294967296 = f .1 in omega arith)
-    (λ c. let f = rw (c .before .before .before .match .keys6) at (c .before .before .before .before .pre .1) in let h : c .before .before .before .before .args .v .third < 65536 = f .2 in omega arith)
-    (λ c. let f = rw (c .before .before .before .before .match .keys6) at (c .before .before .before .before .before .pre .1) in let h : c .before .before .before .before .before .args .v .fourth < 65536 = f .3 in omega arith)
-    (λ c. let f = rw (last (c .before)) at (c .before .before .pre .1) in let h : c .before .before .args .v .first < 65536 = f .0 in omega arith)
+    (λ c. omega (arith, entry-fits (c .before)))
+    (λ c. omega (arith, entry-fits (c .before .before)))
+    (λ c. omega (arith, mark-fits (c .before)))
+    (λ c. omega (arith, mark-fits (c .before .before)))
+    (λ c. omega (arith, mark-fits (c .before .before .before)))
+    (λ c. omega (arith, mark-fits (c .before .before .before .before)))
+    (λ c. omega (arith, name-fits (c .before)))
     (λ c. simp (c .match .keys1))
     (λ c. simp (c .before .match .keys2, c .window .ensures))
     (λ c. simp (c .before .match .keys3, c .window2 .ensures))
