@@ -2,7 +2,7 @@
 tree to it: the former stand in crates/*/specs, the latter in crates/*/specs/inner.
 
 A definition is to be believed where the contract of a public call leads to it. The public calls are the public
-functions without `requires` of the crates of INTERFACE. The statements of the laws of docs/ASSURANCE.md lead to
+functions without `requires` of the crates of INTERFACE, at their root or in a public module. The statements of the laws of docs/ASSURANCE.md lead to
 definitions too: these may stand at either place. Of the crates of OUTSIDE nothing is asked.
 """
 import re
@@ -22,7 +22,9 @@ CALL = re.compile(r'^pub (?:extern "C" )?fn \w+(.*?)^\{', re.S | re.M)
 def contracts(project):
     """The declarations that the contracts of the public calls name."""
     for crate in INTERFACE:
-        for source in sorted((project.crates / crate / 'src').glob('**/*.rt')):
+        root = project.crates / crate / 'src/lib.rt'
+        modules = re.findall(r'^pub mod (\w+);', root.read_text(), re.M)
+        for source in [root] + [root.with_name(module + '.rt') for module in modules]:
             text = source.read_text()
             names = {}
             for line in text.split('\n'):

@@ -52,6 +52,8 @@ def absent(root, name):
     """The paths that a page quotes and that are not there."""
     crates = '|'.join(sorted(path.name for path in (root / 'crates').iterdir()))
     for quoted in re.findall(r'`([^`\s]+)`', (root / name).read_text()):
+        if re.search(r'(^|/)[A-Z_]+(/|$|\.antt$|\.edit$)', quoted):
+            continue  # a name that stands for any, as crates/NAME
         if re.fullmatch(rf'({"|".join(map(re.escape, FOLDERS))})/[\w./-]*', quoted):
             path = root / quoted
         elif re.fullmatch(rf'({crates})/(src|specs|proofs|must-fail)[\w./-]*', quoted):
