@@ -42,15 +42,16 @@ fn to_xd(r: Registers, w: Divided) -> Registers
     r.with_d(w.remainder, w.flags).with_x(w.quotient, w.flags)
 }
 
-pub fn with_i(f: u8, i: bool) -> u8
-    ensures { λ r. ⌜ r ≡ withI f i ⌝ }
+// CLI, SEI, SWI: the flags f with I set or not.
+pub fn with_i(f: u8, set: bool) -> u8
+    ensures { λ b. ⌜ b ≡ withI f set ⌝ }
 {
     let g = Flags::from_byte(f);
     Flags {
         s: g.s,
         x: g.x,
         h: g.h,
-        i: i,
+        i: set,
         n: g.n,
         z: g.z,
         v: g.v,
@@ -58,9 +59,9 @@ pub fn with_i(f: u8, i: bool) -> u8
     }.to_byte()
 }
 
-// New flags where the old ones are f: X is never raised.
+// TAP, RTI: new flags where the old ones are f. X is never raised.
 pub fn replaced(new: u8, f: u8) -> u8
-    ensures { λ r. ⌜ r ≡ replaced new f ⌝ }
+    ensures { λ b. ⌜ b ≡ replaced new f ⌝ }
 {
     let g = Flags::from_byte(new);
     let old = Flags::from_byte(f);
