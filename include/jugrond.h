@@ -44,8 +44,9 @@ extern "C" {
 #define JUGROND_FLAGS 10
 
 /*
- * A slot keeps what a start needs of a routine that was judged: windows, entry and limit as the ticket has them, then
- * the certified figures. Its numbers are high byte first, at these offsets, and of two bytes where nothing is said.
+ * A slot keeps the certificate of a routine that was judged: windows, entry and limit as the ticket has them, which a
+ * start goes by, then the certified figures. Its numbers are high byte first, at these offsets, and of two bytes where
+ * nothing is said.
  */
 #define JUGROND_SLOT_BYTES 24
 #define JUGROND_SLOT_CODE 0 /* code window: first address */
