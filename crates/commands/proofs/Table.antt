@@ -16,7 +16,7 @@ use Rattle.commands.specs.Bytes.{joined, operandsIn}
 use Rattle.commands.specs.Cause.{allInRange}
 use Rattle.commands.specs.declared.row.Row.{Row as CodeRow}
 use Rattle.commands.specs.declared.command.Operands.{Operands}
-use Rattle.commands.specs.inner.Table.{codeOperand, operandAt, codeRow, codeValues, FitsCode, inRangeCode, Width, none, word, long, quad}
+use Rattle.commands.specs.inner.Table.{codeOperand, operandAt, codeRow, codeSize, codeValues, valuesIn, FitsCode, inRangeCode, Widths, Width, none, word, long, quad}
 
 -- ---- the rows
 
@@ -97,22 +97,10 @@ size-code (o ∷ p ∷ q ∷ []) l = simp operand-width (omega arith)
 size-code (o ∷ p ∷ q ∷ r ∷ []) l = simp operand-width (omega arith)
 size-code (o ∷ p ∷ q ∷ r ∷ t ∷ os) l = absurd (omega arith)
 
--- value i of those that stand in some bytes, from an offset on
-abbrev valueAt : List Operand → List ℕ → ℕ → ℕ → ℕ
-valueAt os s at i = number (take (width os i) (drop at s))
-
-pub values-code :
-    (os : List Operand) (s : List ℕ) → length os ≤ 4
-    → record {
-      first = valueAt os s 0 0;
-      second = valueAt os s (width os 0) 1;
-      third = valueAt os s (width os 0 + width os 1) 2;
-      fourth = valueAt os s (width os 0 + width os 1 + width os 2) 3;
-    }
-    ≡ codeValues (operandsIn os s)
+values-code : (os : List Operand) (s : List ℕ) → length os ≤ 4 → valuesIn (codeRow os) s ≡ codeValues (operandsIn os s)
 values-code [] s l = refl
-values-code (o ∷ []) s l = rw (operand-width o)
-values-code (o ∷ p ∷ []) s l = rw (operand-width o, operand-width p)
+values-code (o ∷ []) s l = simp operand-width
+values-code (o ∷ p ∷ []) s l = simp operand-width
 values-code (o ∷ p ∷ q ∷ []) s l = simp (operand-width, drop-drop)
 values-code (o ∷ p ∷ q ∷ r ∷ []) s l = simp (operand-width, drop-drop)
 values-code (o ∷ p ∷ q ∷ r ∷ t ∷ os) s l = absurd (omega arith)
@@ -171,11 +159,18 @@ ranges-code (one (one (one (one (one m))))) l h = absurd (omega arith)
 -- ---- a row of the code, and values of the code
 
 module _ (b : ℕ) (row : CodeRow) (e : row ≡ codeRow (rowOf b)) where
-  pub row-sizes : row .first .width + row .second .width + row .third .width + row .fourth .width ≡ sizeOf (rowOf b)
+  pub row-sizes : codeSize row ≡ sizeOf (rowOf b)
   row-sizes = rw e (size-code (rowOf b) (row-short b))
 
-  pub row-widths : Width (row .first .width) × Width (row .second .width) × Width (row .third .width) × Width (row .fourth .width)
+  pub row-widths : Widths row
   row-widths = rw e (row-width b 0, row-width b 1, row-width b 2, row-width b 3)
+
+  -- no row has more than ten bytes of operands
+  pub row-small : codeSize row ≤ 10
+  row-small = rw row-sizes (row-size b)
+
+  pub row-values : (s : List ℕ) → valuesIn row s ≡ codeValues (operandsIn (rowOf b) s)
+  row-values s = rw e (values-code (rowOf b) s (row-short b))
 
   pub row-fits : (v : Operands) → FitsCode row v → FitsCode (codeRow (rowOf b)) v
   row-fits v f = subst (λ (r : CodeRow). FitsCode r v) e f

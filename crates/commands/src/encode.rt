@@ -19,7 +19,7 @@ use crate::row::size;
 pub fn width_of(c: Command) -> u32
     ensures { λ r. ⌜ r ≡ widthOf c ⌝ }
 {
-    (1 + size(byte_of(c))) as u32
+    (1 + size(row_of(byte_of(c)))) as u32
 }
 
 // Two operands at an offset of the output; the offset after them.

@@ -1,15 +1,15 @@
 // The command that bytes begin with: its byte, then its operands by the widths of its row.
 ghost use mathlib.Core.Path.{_≡_};
-ghost use Prim.Native.Nat.{_<_, _≤_};
+ghost use Prim.Native.Nat.{_≤_};
 ghost use lib.ListN.{length};
-ghost use Rattle.commands.specs.Rows.{rows, rowOf, sizeOf};
-ghost use Rattle.commands.specs.Bytes.{parseOf, operandsIn};
-ghost use Rattle.commands.specs.inner.Table.{codeRow, codeValues, FitsCode};
+ghost use Rattle.commands.specs.Bytes.{parseOf};
+ghost use Rattle.commands.specs.inner.Table.{Widths, FitsCode, codeSize, valuesIn};
 use crate::command::Command;
 use crate::command::Operands;
 use crate::command::command_with;
 use crate::number::number;
 use crate::row::COMMANDS;
+use crate::row::Row;
 use crate::row::row_of;
 use crate::row::size;
 
@@ -20,12 +20,11 @@ pub enum Parsed {
     Found(Command),
 }
 
-// The operands of a command byte that the bytes after it begin with.
-fn operands_in(b: u8, s: &[u8]) -> Operands
-    requires { ⌜ (b < length rows) × (sizeOf (rowOf b) ≤ length (now s)) ⌝ }
-    ensures { λ r. ⌜ (r ≡ codeValues (operandsIn (rowOf b) (now (s .entry)))) × FitsCode (codeRow (rowOf b)) r ⌝ }
+// The operands of a row that bytes begin with.
+fn operands_in(row: Row, s: &[u8]) -> Operands
+    requires { ⌜ Widths row × (codeSize row ≤ length (now s)) × (codeSize row ≤ 10) ⌝ }
+    ensures { λ r. ⌜ (r ≡ valuesIn row (now (s .entry))) × FitsCode row r ⌝ }
 {
-    let row = row_of(b);
     let first = row.first;
     let second = row.second;
     let third = row.third;
@@ -51,8 +50,9 @@ pub fn parse(s: &[u8]) -> Parsed
     if COMMANDS <= b {
         return Parsed::Unknown;
     }
-    if s.len() - 1 < size(b) {
+    let row = row_of(b);
+    if s.len() - 1 < size(row) {
         return Parsed::Cut;
     }
-    Parsed::Found(command_with(b, operands_in(b, &s[1..])))
+    Parsed::Found(command_with(b, operands_in(row, &s[1..])))
 }

@@ -1,9 +1,9 @@
 // The table of commands (document 01, "The ticket"): the operands of each, with their widths and ranges, by its byte.
 ghost use mathlib.Core.Path.{_≡_};
-ghost use Prim.Native.Nat.{_<_};
+ghost use Prim.Native.Nat.{_≤_, _<_};
 ghost use lib.ListN.{length};
-ghost use Rattle.commands.specs.Rows.{rows, rowOf, sizeOf};
-ghost use Rattle.commands.specs.inner.Table.{codeRow};
+ghost use Rattle.commands.specs.Rows.{rows, rowOf};
+ghost use Rattle.commands.specs.inner.Table.{codeRow, codeSize};
 
 // A number of `width` bytes from `least` to `most`, or a text, each byte of which is $20 to $7E.
 pub struct Operand {
@@ -103,12 +103,11 @@ pub fn row_of(b: u8) -> Row
     }
 }
 
-// How many bytes the operands of a command byte have.
-pub fn size(b: u8) -> usize
-    requires { ⌜ b < length rows ⌝ }
-    ensures { λ r. ⌜ r ≡ sizeOf (rowOf b) ⌝ }
+// How many bytes the operands of a row have.
+pub fn size(row: Row) -> usize
+    requires { ⌜ codeSize row ≤ 10 ⌝ }
+    ensures { λ r. ⌜ r ≡ codeSize row ⌝ }
 {
-    let row = row_of(b);
     let first = row.first;
     let second = row.second;
     let third = row.third;

@@ -13,6 +13,7 @@ use Rattle.commands.specs.declared.header.Header.{Header}
 use Rattle.commands.specs.declared.progress.Progress.{Progress}
 use Rattle.commands.specs.declared.admit.Admitted.the-variants.{Next}
 use Rattle.commands.specs.Number.{digits}
+use Rattle.commands.specs.Bytes.{widthOf}
 use Rattle.commands.specs.Progress.{initialProgress, markedOf, afterOf}
 use Rattle.commands.specs.Cause.{inOrder, rangesHold, edgesHold, separate, inside, commandCauseOf}
 use Rattle.commands.proofs.Causes.{allowed, allow}
@@ -42,7 +43,7 @@ abbrev headed : Header → Progress
 headed h = record { at = 22; stage = 4; header = h; count = 0; last = 0; nameable = false }
 
 header-says : (h : Header) (cs : List Command) → Free initialProgress (headerCommands h ++ cs) ↔ (HeaderRules h × Free (headed h) cs)
-unfolding afterOf rangesHold
+unfolding afterOf widthOf rangesHold
 header-says h cs = simp (cause-says, tests) (λ f. (search arith, f .1 .1 .1 .1), λ r. search arith)
 
 -- ---- one mark and its name, after a header and perhaps other marks
@@ -52,12 +53,12 @@ module _ (p : Progress) (e : p .stage ≡ 4) where
   unfolding rangesHold
   mark-says a k = simp (cause-says, tests) (λ t. search arith, λ r. search arith)
 
-  text-says : (a t : ℕ) → (commandCauseOf (markedOf p a) (Command.Name a t) ≡ 0) ↔ Every (Between 0x20 0x7e) (digits 8 t)
+  text-says : (n a t : ℕ) → (commandCauseOf (markedOf p n a) (Command.Name a t) ≡ 0) ↔ Every (Between 0x20 0x7e) (digits 8 t)
   unfolding rangesHold
-  text-says a t = (
-    λ c. printable-says (digits 8 t) .0 (and-eq-true-iff _ true .0 (allowed (markedOf p a) (Command.Name a t) c .ranged) .0),
+  text-says n a t = (
+    λ c. printable-says (digits 8 t) .0 (and-eq-true-iff _ true .0 (allowed (markedOf p n a) (Command.Name a t) c .ranged) .0),
     λ r.
-        allow (markedOf p a) (Command.Name a t)
+        allow (markedOf p n a) (Command.Name a t)
         (record {
           ordered = simp tests (omega arith);
           ranged = rw (printable-says (digits 8 t) .1 r);
@@ -76,12 +77,12 @@ text-of (text r) = r
 
 -- what comes after a mark and its name depends on the header, how many marks there are and the last address
 module _ (p : Progress) (e : p .stage ≡ 4) (a : ℕ) (cs ds : List Command) (R : Header → ℕ → ℕ → Type 0) (rest : (q : Progress) → q .stage ≡ 4 → Free q (cs ++ ds) ↔ R (q .header) (q .count) (q .last)) where
-  name-says : (n : Name) → Free (markedOf p a) ((nameCommands a n ++ cs) ++ ds) ↔ (NameRule n × R (p .header) (p .count + 1) a)
+  name-says : (w : ℕ) (n : Name) → Free (markedOf p w a) ((nameCommands a n ++ cs) ++ ds) ↔ (NameRule n × R (p .header) (p .count + 1) a)
   unfolding afterOf
-  name-says Absent = (λ f. (absent, rest _ e .0 f), λ r. rest _ e .1 (r .1))
-  name-says (Text t) = (
-    λ f. (text (text-says p e a t .0 (f .0)), rest _ e .0 (f .1)),
-    λ r. (text-says p e a t .1 (text-of (r .0)), rest _ e .1 (r .1)),
+  name-says w Absent = (λ f. (absent, rest _ e .0 f), λ r. rest _ e .1 (r .1))
+  name-says w (Text t) = (
+    λ f. (text (text-says p e w a t .0 (f .0)), rest _ e .0 (f .1)),
+    λ r. (text-says p e w a t .1 (text-of (r .0)), rest _ e .1 (r .1)),
   )
 
 -- ---- the marks
@@ -107,7 +108,7 @@ unfolding afterOf
 marks-says [] p e = (λ f. (Every.none, λ o. tt, Rising.none), λ r. (end-free p e, tt))
 marks-says (m ∷ ms) p e =
     let mark = mark-says p e (m .address) (m .claim) in
-    let name = name-says p e (m .address) (markCommands ms) (Command.End ∷ []) (Marked ms) (marks-says ms) (m .name) in
+    let name = name-says p e (m .address) (markCommands ms) (Command.End ∷ []) (Marked ms) (marks-says ms) _ (m .name) in
     let rise = rising-says m ms in (
       λ f.
           let k = mark .0 (f .0) in

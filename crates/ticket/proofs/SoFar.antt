@@ -16,6 +16,7 @@ use Rattle.commands.specs.declared.header.Window.{Window}
 use Rattle.commands.specs.declared.header.Header.{Header}
 use Rattle.commands.specs.declared.progress.Progress.{Progress}
 use Rattle.commands.specs.Cause.{stageOf, inOrder, commandCauseOf}
+use Rattle.commands.specs.Bytes.{widthOf}
 use Rattle.commands.specs.Progress.{initialProgress, stagedOf, namedOf, afterOf}
 use Rattle.commands.specs.inner.Sound.{Sound}
 use Rattle.commands.specs.Header.{withWindow}
@@ -59,23 +60,23 @@ module _ (p : Progress) where
   no-marks : (ms : List Mark) → Consistent p ms → p .stage < 4 → ms ≡ []
   no-marks ms k h = empty ms (omega (arith, k .sound .early h))
 
-  said-window : (ms : List Mark) → Consistent p ms → (d : WindowKind) (w : Window) → p .stage ≡ stageOf d
-      → soFar (stagedOf p 5 (withWindow d (p .header) w)) ms ≡ soFar p ms ++ (Command.Window d w ∷ [])
-  said-window ms k Code w e = rw (no-marks ms k (omega arith), e)
-  said-window ms k Data w e = rw (no-marks ms k (omega arith), e)
-  said-window ms k Stack w e = rw (no-marks ms k (omega arith), e)
+  said-window : (ms : List Mark) → Consistent p ms → (d : WindowKind) (w : Window) (n : ℕ) → p .stage ≡ stageOf d
+      → soFar (stagedOf p n (withWindow d (p .header) w)) ms ≡ soFar p ms ++ (Command.Window d w ∷ [])
+  said-window ms k Code w n e = rw (no-marks ms k (omega arith), e)
+  said-window ms k Data w n e = rw (no-marks ms k (omega arith), e)
+  said-window ms k Stack w n e = rw (no-marks ms k (omega arith), e)
 
   -- the latest mark has no name yet, and the name's address is its own
-  said-name : (ms : List Mark) → Consistent p ms → (a t : ℕ) → p .stage ≡ 4 → p .nameable ≡ true → a ≡ p .last
-      → soFar (namedOf p) (marksWith ms (Command.Name a t)) ≡ soFar p ms ++ (Command.Name a t ∷ [])
-  said-name [] k a t e n l = absurd (omega (arith, k .sound .named n))
-  said-name (m ∷ ms) k a t e n l =
+  said-name : (ms : List Mark) → Consistent p ms → (a t n : ℕ) → p .stage ≡ 4 → p .nameable ≡ true → a ≡ p .last
+      → soFar (namedOf p n) (marksWith ms (Command.Name a t)) ≡ soFar p ms ++ (Command.Name a t ∷ [])
+  said-name [] k a t n e can l = absurd (omega (arith, k .sound .named can))
+  said-name (m ∷ ms) k a t n e can l =
       let own : a ≡ m .address = omega arith in
-      simp (e, own, k .latest .1 n, commands-snoc, append-assoc, append-nil)
+      simp (e, own, k .latest .1 can, commands-snoc, append-assoc, append-nil)
 
   said-step : (ms : List Mark) → Consistent p ms → (c : Command) → inOrder p c ≡ true → soFar (afterOf p c) (marksWith ms c) ≡ soFar p ms ++ (c ∷ [])
   unfolding afterOf
-  said-step ms k (Command.Window d w) o = said-window ms k d w (eqb-true _ _ o)
+  said-step ms k (Command.Window d w) o = said-window ms k d w (widthOf (Command.Window d w)) (eqb-true _ _ o)
   said-step ms k (Command.Entry a l) o =
       let e = eqb-true (p .stage) 3 o in
       rw (no-marks ms k (omega arith), e)
@@ -85,7 +86,7 @@ module _ (p : Progress) where
   said-step ms k (Command.Name a t) o =
       let b = and-eq-true-iff (eqb (p .stage) 4) _ .0 o in
       let n = and-eq-true-iff (p .nameable) _ .0 (b .1) in
-      said-name ms k a t (eqb-true _ _ (b .0)) (n .0) (eqb-true _ _ (n .1))
+      said-name ms k a t (widthOf (Command.Name a t)) (eqb-true _ _ (b .0)) (n .0) (eqb-true _ _ (n .1))
   said-step ms k Command.End o =
       let e = eqb-true (p .stage) 4 o in
       simp (e, append-nil)
@@ -105,9 +106,9 @@ module _ (p : Progress) where
       record { sound = s; counted = k .counted; latest = (k .latest .0, no-name) }
 
   -- a name leaves how many marks there are, and their addresses
-  kept-name : (ms : List Mark) → Consistent p ms → (a t : ℕ) → Sound (namedOf p) → Consistent (namedOf p) (marksWith ms (Command.Name a t))
-  kept-name [] k a t s = record { sound = s; counted = k .counted; latest = tt }
-  kept-name (m ∷ ms) k a t s =
+  kept-name : (ms : List Mark) → Consistent p ms → (a t n : ℕ) → Sound (namedOf p n) → Consistent (namedOf p n) (marksWith ms (Command.Name a t))
+  kept-name [] k a t n s = record { sound = s; counted = k .counted; latest = tt }
+  kept-name (m ∷ ms) k a t n s =
       record { sound = s; counted = k .counted; latest = (k .latest .0, no-name) }
 
   kept-step : (ms : List Mark) → Consistent p ms → (c : Command) → Sound (afterOf p c) → Consistent (afterOf p c) (marksWith ms c)
@@ -120,7 +121,7 @@ module _ (p : Progress) where
         counted = omega (arith, k .counted);
         latest = (refl, λ n. refl);
       }
-  kept-step ms k (Command.Name a t) s = kept-name ms k a t s
+  kept-step ms k (Command.Name a t) s = kept-name ms k a t _ s
   kept-step ms k Command.End s = kept-staged ms k _ _ s
 
   pub consistent-next : (ms : List Mark) → Consistent p ms → (c : Command) → commandCauseOf p c ≡ 0 → Consistent (afterOf p c) (marksWith ms c)

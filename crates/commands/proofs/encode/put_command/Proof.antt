@@ -14,7 +14,7 @@ use Rattle.commands.specs.Bytes.{joined, encodeOf, widthOf}
 use Rattle.commands.specs.Command.{commandByteOf, operandsOf}
 use Rattle.commands.specs.declared.command.Command.{Command}
 use Rattle.commands.specs.declared.row.Row.{Row as CodeRow}
-use Rattle.commands.specs.inner.Table.{codeRow, Width}
+use Rattle.commands.specs.inner.Table.{codeRow, codeSize, Widths}
 use Rattle.commands.proofs.Coding.{said}
 use Rattle.commands.specs.declared.command.Operands.{Operands}
 use Rattle.commands.proofs.Put.{placed-byte}
@@ -44,10 +44,10 @@ module _ (r : tie.After-row-of) where
   is-row : row ≡ codeRow (rowOf (commandByteOf command))
   is-row = rw (r .before .before .byte-of .ensures) at (r .row-of .ensures)
 
-  sizes : row .first .width + row .second .width + row .third .width + row .fourth .width ≡ sizeOf (rowOf (commandByteOf command))
+  sizes : codeSize row ≡ sizeOf (rowOf (commandByteOf command))
   sizes = row-sizes (commandByteOf command) row is-row
 
-  widths : Width (row .first .width) × Width (row .second .width) × Width (row .third .width) × Width (row .fourth .width)
+  widths : Widths row
   widths = row-widths (commandByteOf command) row is-row
 
   -- there is room for the byte and the four operands
