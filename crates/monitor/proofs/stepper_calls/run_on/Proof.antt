@@ -1,9 +1,11 @@
 -- `monitor::stepper_calls::run_on` meets its contract: by the lengths, and then by what the stepper answers.
 -- Assumes nothing.
 use borrow.Author.Needs.{needs}
-use Prim.Native.Nat.{ℕ}
-use mathlib.Core.Path.{_≡_, sym, ap, _∙_}
+use Prim.Native.Nat.{ℕ, _<_}
+use mathlib.Core.Path.{_≡_, sym, ap, subst, _∙_}
+use native.Mathlib.Omega.{arith}
 use Rattle.stepper.specs.Answer.{RunAnswer, ranOf}
+use Rattle.stepper.proofs.Refusals.{RunPlaced, run-placed}
 use Rattle.monitor.specs.StepperCalls.{ofRun, runBytesOf}
 use Rattle.monitor.proofs.Sized.{bad-registers, bad-memory, runs}
 use Rattle.monitor.proofs.stepper_calls.run_on.Statement.{statement}
@@ -42,12 +44,23 @@ returns-4 c k p =
     simp (d .reached2 .ensures .0, d .reached2 .ensures .1)
     (answered (q .before .before .before .before) k p (ap ranOf (sym (q .q2 .given .1))))
 
+-- the place of a run's refusal is PC or 0
+address-of-requires : tie.Need-address-of-requires
+address-of-requires c κs =
+    let q = c .before .before .before in
+    let w = q .before .before .before .before in
+    let e = ap ranOf (sym (q .q3 .given .1)) ∙ w .run .ensures .0 in
+    let p = subst RunPlaced (sym e) (run-placed _ _ _) in
+    let g = q .q3 .given .0 in
+    let low : g .0 .pc < 65536 = omega (arith, c .before .before .known-told3 .given) in
+    let small : g .1 .1 .0 .place < 65536 = omega (arith, p .2, low) in
+    small
+
 returns-5 : tie.Need-returns-5
 returns-5 c k p =
     let d = c .before .before in
-    let n = d .before .before in
-    let q = n .before .before .before in
-    simp (d .reached3 .ensures .0, d .reached3 .ensures .1, n .number-of .ensures, d .before .place-of .ensures)
+    let q = d .before .before .before .before .before in
+    simp (d .reached3 .ensures .0, d .reached3 .ensures .1, d .before .address-of .ensures)
     (answered (q .before .before .before .before) k p (ap ranOf (sym (q .q3 .given .1))))
 
 pub run-on-spec : {M : Type 1} → statement M
@@ -64,7 +77,7 @@ run-on-spec =
     (search needs)
     (search needs)
     (search needs)
-    (search needs)
+    address-of-requires
     (search needs)
     (search needs)
     (search needs)

@@ -1,9 +1,11 @@
 -- `monitor::stepper_calls::step_on` meets its contract: by the lengths, and then by what the stepper answers.
 -- Assumes nothing.
 use borrow.Author.Needs.{needs}
-use Prim.Native.Nat.{ℕ}
-use mathlib.Core.Path.{_≡_, sym, ap, _∙_}
+use Prim.Native.Nat.{ℕ, _<_}
+use mathlib.Core.Path.{_≡_, sym, ap, subst, _∙_}
+use native.Mathlib.Omega.{arith}
 use Rattle.stepper.specs.Answer.{Answer, answerOf}
+use Rattle.stepper.proofs.Refusals.{StepPlaced, step-placed}
 use Rattle.monitor.specs.StepperCalls.{ofStep, stepBytesOf}
 use Rattle.monitor.proofs.Sized.{bad-registers, bad-memory, steps}
 use Rattle.monitor.proofs.stepper_calls.step_on.Statement.{statement}
@@ -35,10 +37,22 @@ returns-3 c k p =
     simp (d .reached .ensures .0, d .reached .ensures .1)
     (answered (q .before .before .before .before) k p (ap answerOf (sym (q .q .given .1))))
 
+-- the place of a step's refusal is PC or 0
+address-of-requires : tie.Need-address-of-requires
+address-of-requires c κs =
+    let x = c .before .before in
+    let w = x .before .before .before .before in
+    let r = w .before .before .unpack .result in
+    let e = ap answerOf (sym (x .x .given .1)) ∙ w .step .ensures .0 in
+    let p = subst (λ (a : Answer). StepPlaced a (r .pc)) (sym e) (step-placed r _) in
+    let low : r .pc < 65536 = omega (arith, w .before .before .unpack .ok) in
+    let small : x .x .given .0 .0 .place < 65536 = omega (arith, p .2, low) in
+    small
+
 returns-4 : tie.Need-returns-4
 returns-4 c k p =
     let x = c .before .before .before in
-    simp (c .before .number-of .ensures, c .place-of .ensures)
+    simp (c .address-of .ensures)
     (answered (x .before .before .before .before) k p (ap answerOf (sym (x .x .given .1))))
 
 pub step-on-spec : {M : Type 1} → statement M
@@ -53,7 +67,7 @@ step-on-spec =
     (search needs)
     (search needs)
     (search needs)
-    (search needs)
+    address-of-requires
     (search needs)
     (search needs)
     returns-3
