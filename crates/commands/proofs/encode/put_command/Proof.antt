@@ -7,7 +7,7 @@ use borrow.Author.Needs.{needs}
 use borrow.Author.Tests.{ltb-true}
 use native.Mathlib.Omega.{arith}
 use lib.ListN.{length, length-set, length-append}
-use Rattle.lists.specs.Splice.{spliced}
+use Rattle.lists.specs.inner.Splice.{spliced}
 use Rattle.commands.specs.Number.{digits}
 use Rattle.commands.specs.Rows.{rowOf, sizeOf}
 use Rattle.commands.specs.Bytes.{joined, encodeOf, widthOf}
