@@ -3,7 +3,8 @@ ghost use mathlib.Core.Path.{_≡_};
 use registers::Cycles;
 use registers::StackBytes;
 
-// Document 01's number of a cause ("Where a ticket stops") and its place: an offset of the ticket, an address, or 24's bytes needed.
+// Document 01's number of a cause ("Where a ticket stops") and its place: an offset of the ticket, an address, or 24's
+// bytes needed.
 pub struct Refusal {
     pub number: u8,
     pub place: u32,

@@ -22,7 +22,8 @@ too-short (c ∷ cs) (d ∷ ds) h = rw (too-short cs ds (omega arith)) (none (eq
     none false = refl
 
 -- the next byte
-pub next-byte : (p s : List ℕ) (i : ℕ) → i < length p → i < length s → startsWith (drop i p) (drop i s) ≡ (eqb (getD s i 0) (getD p i 0) && startsWith (drop (i + 1) p) (drop (i + 1) s))
+pub next-byte : (p s : List ℕ) (i : ℕ) → i < length p → i < length s →
+    startsWith (drop i p) (drop i s) ≡ (eqb (getD s i 0) (getD p i 0) && startsWith (drop (i + 1) p) (drop (i + 1) s))
 unfolding startsWith
 next-byte p s i h k = rw (drop-cons p i 0 h, drop-cons s i 0 k, add-one)
 

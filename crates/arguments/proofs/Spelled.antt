@@ -26,7 +26,8 @@ module _ (b most : ℕ) where
 
   -- the next digit, of value d
   pub next-digit : (s : List ℕ) (i v d : ℕ) → i < length s → d ≡ digitOf (getD s i 0)
-      → numberFrom b most v (drop i s) ≡ cond (ltb d b) (cond (leb (v * b + d) most) (numberFrom b most (v * b + d) (drop (i + 1) s)) Malformed) Malformed
+      → numberFrom b most v (drop i s) ≡ cond (ltb d b) (cond (leb (v * b + d) most)
+      (numberFrom b most (v * b + d) (drop (i + 1) s)) Malformed) Malformed
   unfolding numberFrom
   next-digit s i v d h e = rw (drop-cons s i 0 h, add-one, e)
 

@@ -26,7 +26,8 @@ pub enum Argument {
 
 // Whether a text begins so.
 fn starts_with(s: &[u8], p: &[u8]) -> bool
-    ensures { λ r. ⌜ (r ≡ startsWith (now (p .entry)) (now (s .entry))) × (r ≡ true → length (now (p .entry)) ≤ length (now (s .entry))) ⌝ }
+    ensures { λ r. ⌜ (r ≡ startsWith (now (p .entry)) (now (s .entry)))
+        × (r ≡ true → length (now (p .entry)) ≤ length (now (s .entry))) ⌝ }
 {
     if s.len() < p.len() {
         return false;

@@ -1,4 +1,5 @@
--- The manual's formulae for carries and borrows are tests on the sum and on the operands: one law for every bit k, so for H, for bytes and for words.
+-- The manual's formulae for carries and borrows are tests on the sum and on the operands: one law for every bit k, so
+-- for H, for bytes and for words.
 -- Assumes nothing.
 use mathlib.Core.Path.{_≡_, refl, sym, ap, _∙_}
 use mathlib.Core.Bool.{Bool, true, false, not, _&&_, _||_, or-assoc, or-comm}
@@ -29,7 +30,8 @@ span k = 2 * 2 ^ k
 -- a number within the span is its bit k with what lies below
 halves : (k n : ℕ) → n % span k ≡ one (bit k n) * 2 ^ k + n % 2 ^ k
 halves k n =
-    mod-mul n (omega arith) (pow-pos k) ∙ ap (λ (b : ℕ). b * 2 ^ k + n % 2 ^ k) (sym (digit (n / 2 ^ k % 2) (mod-lt (n / 2 ^ k) (omega arith))))
+    mod-mul n (omega arith) (pow-pos k) ∙ ap (λ (b : ℕ). b * 2 ^ k + n % 2 ^ k)
+    (sym (digit (n / 2 ^ k % 2) (mod-lt (n / 2 ^ k) (omega arith))))
 
 -- a sum of two numbers below 2 · h: the carry q, from the high bits a and b and the result's, s
 full : (h : ℕ) (a b s q : Bool) {x m r c : ℕ} → x < h → m < h → r < h → c ≤ 1 →
@@ -57,11 +59,13 @@ bit-one true = refl
 bit-one false = refl
 
 -- a sum's carry out of bit k: the sum is q of the span, and the result
-carry-is : (k x m r : ℕ) (c q : Bool) → x % span k + m % span k + one c ≡ one q * span k + r % span k → carry k x m r ≡ q
+carry-is : (k x m r : ℕ) (c q : Bool) → x % span k + m % span k + one c ≡ one q * span k + r % span k →
+    carry k x m r ≡ q
 carry-is k x m r c q e =
     let below : (n : ℕ) → n % 2 ^ k < 2 ^ k = λ n. mod-lt n (pow-pos k) in
     simp bit-one at
-    (full (2 ^ k) (bit k x) (bit k m) (bit k r) q (below x) (below m) (below r) (one≤ c) (rw (halves k x, halves k m, halves k r) at e))
+    (full (2 ^ k) (bit k x) (bit k m) (bit k r) q (below x) (below m) (below r) (one≤ c)
+    (rw (halves k x, halves k m, halves k r) at e))
 
 -- a borrow's three products, as a carry has them
 rotate : (a b c : Bool) → ((a || b) || c) ≡ ((b || c) || a)
@@ -71,7 +75,8 @@ in-span : (k n : ℕ) → n % span k < span k
 in-span k n = mod-lt n (omega (arith, pow-pos k))
 
 -- the carry of the sum n
-pub carry-test : (k x m r n : ℕ) (c : Bool) → n ≡ x % span k + m % span k + one c → r % span k ≡ n % span k → carry k x m r ≡ leb (span k) n
+pub carry-test : (k x m r n : ℕ) (c : Bool) → n ≡ x % span k + m % span k + one c → r % span k ≡ n % span k →
+    carry k x m r ≡ leb (span k) n
 carry-test k x m r n c s e =
     carry-is k x m r c (leb (span k) n)
     (at-test (λ (q : Bool). x % span k + m % span k + one c ≡ one q * span k + r % span k) (span k) n
@@ -82,7 +87,8 @@ carry-test k x m r n c s e =
     below h = omega (arith, one≤ c, in-span k x, in-span k m)
 
 -- the borrow of x less t: x is the sum of m and the difference r
-pub borrow-test : (k x m r t : ℕ) (c : Bool) → x < span k → m < span k → t ≡ m + one c → r ≡ (x + span k - t) % span k → borrow k x m r ≡ ltb x t
+pub borrow-test : (k x m r t : ℕ) (c : Bool) → x < span k → m < span k → t ≡ m + one c → r ≡ (x + span k - t) % span k →
+    borrow k x m r ≡ ltb x t
 borrow-test k x m r t c a b s e =
     let own-x : x % span k ≡ x = mod-eq-of-lt a in
     let own-m : m % span k ≡ m = mod-eq-of-lt b in

@@ -23,8 +23,10 @@ module _ (f : ℕ) (l : f < 256) where
   middle = rw (digit (f / 32 % 2) (omega arith), fourth) (omega arith)
 
   pub hnzvc-byte : (h n z v c : Bool) →
-      byteOf (withHnzvc (flagsOf f) h n z v c) ≡ f / 64 * 64 + 32 * one h + f / 16 % 2 * 16 + 8 * one n + 4 * one z + 2 * one v + one c
+      byteOf (withHnzvc (flagsOf f) h n z v c) ≡ f / 64 * 64 + 32 * one h + f / 16 % 2 * 16 + 8 * one n + 4 * one z +
+      2 * one v + one c
   hnzvc-byte h n z v c = omega (arith, top, fourth)
 
-  pub nzvc-byte : (n z v c : Bool) → byteOf (withNzvc (flagsOf f) n z v c) ≡ f / 16 * 16 + 8 * one n + 4 * one z + 2 * one v + one c
+  pub nzvc-byte : (n z v c : Bool) → byteOf (withNzvc (flagsOf f) n z v c)
+      ≡ f / 16 * 16 + 8 * one n + 4 * one z + 2 * one v + one c
   nzvc-byte n z v c = omega (arith, top, middle)

@@ -55,8 +55,8 @@ unaryOf Clr m f = result 0 (withNzvc f false true false false)
 abbrev pub logical : ℕ → Flags → Result
 logical r f = result r (logic8Of r f)
 
--- what the accumulator x becomes by the operand byte m. SUBA CMPA SBCA ANDA BITA LDAA EORA ADCA ORAA ADDA; SUBB CMPB SBCB
--- ANDB BITB LDAB EORB ADCB ORAB ADDB. CMP and BIT leave it
+-- what the accumulator x becomes by the operand byte m. SUBA CMPA SBCA ANDA BITA LDAA EORA ADCA ORAA ADDA; SUBB CMPB
+-- SBCB ANDB BITB LDAB EORB ADCB ORAB ADDB. CMP and BIT leave it
 abbrev pub binaryOf : Binary → ℕ → ℕ → Flags → Result
 binaryOf Sub x m f = sub8Of x m false f
 binaryOf Cmp x m f = result x (sub8Of x m false f .flags)

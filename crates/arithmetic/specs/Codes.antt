@@ -1,5 +1,5 @@
--- The condition codes of sums and differences, by the manual's Boolean formulae over bit k of the operands x and m and of the result r.
--- Bit 7 is a byte's sign and bit 15 a word's; H takes the carry out of bit 3.
+-- The condition codes of sums and differences, by the manual's Boolean formulae over bit k of the operands x and m and
+-- of the result r. Bit 7 is a byte's sign and bit 15 a word's; H takes the carry out of bit 3.
 -- Assumes nothing.
 use Prim.Native.Nat.{ℕ}
 use mathlib.Core.Bool.{Bool, not, _&&_, _||_}

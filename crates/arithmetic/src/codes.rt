@@ -1,7 +1,8 @@
 // The byte of the condition codes with some of them changed, and V of a sum or a difference.
 ghost use mathlib.Core.Path.{_≡_};
 ghost use Rattle.registers.specs.Flags.{flagsOf, byteOf};
-ghost use Rattle.arithmetic.specs.Codes.{withNzvc, withNzv, withHnzvc, withZ, withV, withC, withZvc, overflowBits};
+ghost use Rattle.arithmetic.specs.Codes.{withNzvc, withNzv, withHnzvc, withZ, withV, withC, withZvc};
+ghost use Rattle.arithmetic.specs.Codes.{overflowBits};
 use lists::bit::one;
 
 // S, X, H and I stay: they are the upper half of the byte.
@@ -48,7 +49,8 @@ pub fn with_zvc(f: u8, z: bool, v: bool, c: bool) -> u8
     with_nzvc(f, f / 8 % 2 == 1, z, v, c)
 }
 
-// V of the sum of x and m, from their sign bits and the result's. A difference is such a sum with m's sign bit turned round.
+// V of the sum of x and m, from their sign bits and the result's. A difference is such a sum with m's sign bit turned
+// round.
 pub fn overflow(x: bool, m: bool, r: bool) -> bool
     ensures { λ o. ⌜ o ≡ overflowBits x m r ⌝ }
 {

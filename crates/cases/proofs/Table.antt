@@ -14,5 +14,6 @@ use Rattle.rules.specs.Checks.{checksAt, verdictOn, verdictOf}
 use Rattle.cases.specs.Table.{memoryWith, AllHold, routineP, ticketP, cases}
 
 pub proved : AllHold cases
-unfolding cases routineP ticketP memoryWith stepOf stepNow runOf runNow verdictOf readOf readFrom nextCommandOf admitOf widthOf commandOf parseOf rangesHold commandCauseOf afterOf verdictOn checksAt shapeOf instructionSize
+unfolding cases routineP ticketP memoryWith stepOf stepNow runOf runNow verdictOf readOf readFrom nextCommandOf admitOf
+    widthOf commandOf parseOf rangesHold commandCauseOf afterOf verdictOn checksAt shapeOf instructionSize
 proved = (refl, (refl, (refl, (refl, (refl, (refl, (refl, (refl, (refl, (refl, (refl, (refl, (refl, tt)))))))))))))

@@ -1,5 +1,5 @@
-// Bad input: memories of other lengths, every place of the four opcode maps, and instructions that wrap at $FFFF. A refusal leaves memory
-// as it was, which is looked at byte by byte.
+// Bad input: memories of other lengths, every place of the four opcode maps, and instructions that wrap at $FFFF. A
+// refusal leaves memory as it was, which is looked at byte by byte.
 use crate::documented::put;
 use crate::print::ran;
 use crate::print::stepped;
@@ -48,7 +48,8 @@ pub fn lengths() {
     kept(&was_long, &long);
 }
 
-// What a step at $8000 comes to: 0 where it is done; the number of a refusal that has PC for its place and kept memory; 1 for any other.
+// What a step at $8000 comes to: 0 where it is done; the number of a refusal that has PC for its place and kept memory;
+// 1 for any other.
 fn outcome(first: u8, second: u8) -> u8 {
     let mut mem = [0u8; 65536];
     put(&mut mem, 0x8000, first);

@@ -1,5 +1,5 @@
-// Document 01's cases 8 to 12, of which 8 and 10 begin with the flags set that they clear, and the two of routine P that a run answers.
-// Its lines under "Further, run" are all the verdict's.
+// Document 01's cases 8 to 12, of which 8 and 10 begin with the flags set that they clear, and the two of routine P
+// that a run answers. Its lines under "Further, run" are all the verdict's.
 use crate::print::ran;
 use crate::print::stepped;
 use output::text;

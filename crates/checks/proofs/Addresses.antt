@@ -14,6 +14,7 @@ addresses-snoc : (ms : List Mark) (m : Mark) → addressesOf (ms ++ (m ∷ [])) 
 addresses-snoc [] m = refl
 addresses-snoc (k ∷ ms) m = rw (addresses-snoc ms m)
 
-pub addresses-next : (ms : List Mark) (r : List ℕ) (i : ℕ) → i < 4096 → i < length r → take i r ≡ addressesOf (listed ms i)
+pub addresses-next : (ms : List Mark) (r : List ℕ) (i : ℕ) → i < 4096 → i < length r →
+    take i r ≡ addressesOf (listed ms i)
     → take (suc i) (set r i (getD ms i blankMark .address)) ≡ addressesOf (listed ms (suc i))
 addresses-next ms r i h room so-far = rw (lt-ltb i 4096 h, addresses-snoc, take-suc-set r i _ room, so-far)

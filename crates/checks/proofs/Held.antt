@@ -28,7 +28,8 @@ every-at (more r rs) zero h = r
 every-at (more r rs) (suc i) h = every-at rs i (omega arith)
 
 -- an index is used only where it is one of a mark
-same-marked : (ms ns : List Mark) (n j : ℕ) → ((i : ℕ) → i < n → getD ms i blankMark ≡ getD ns i blankMark) → (there : Bool) → ltb j n ≡ there
+same-marked : (ms ns : List Mark) (n j : ℕ) → ((i : ℕ) → i < n → getD ms i blankMark ≡ getD ns i blankMark) →
+    (there : Bool) → ltb j n ≡ there
     → markedIf there (getD ms (cond there j 0) blankMark) ≡ markedIf there (getD ns (cond there j 0) blankMark)
 same-marked ms ns n j same true e = rw (same j (ltb-true j n e))
 same-marked ms ns n j same false e = refl
@@ -44,12 +45,15 @@ module _ (t : Ticket) (few : t .count ≤ 4096) (full : length (t .marks) ≡ 40
   pub held-mark : (i : ℕ) → i < t .count → getD (fieldsOf t .marks) i blankMark ≡ getD (t .marks) i blankMark
   held-mark i h = rw held-take (getD-take (t .count) (t .marks) i blankMark h)
 
-  pub held-above : Readable (fieldsOf t) → (i : ℕ) → i < t .count → t .header .code .start ≤ getD (t .marks) i blankMark .address
+  pub held-above : Readable (fieldsOf t) → (i : ℕ) → i < t .count →
+      t .header .code .start ≤ getD (t .marks) i blankMark .address
   unfolding fieldsOf
   held-above r i h = rw (← held-mark i h) (every-at (r .mark-rules) i (rw held-count h) .inside .0)
 
-  -- as the code finds it: by the addresses l, the index e of the address a in them, and the index j where e is one of a mark
-  pub held-claim : (l : List ℕ) → l ≡ addressesOf (fieldsOf t .marks) → (a e j : ℕ) → e ≡ indexOf l a → j ≡ cond (ltb e (t .count)) e 0
+  -- as the code finds it: by the addresses l, the index e of the address a in them, and the index j where e is one of a
+  -- mark
+  pub held-claim : (l : List ℕ) → l ≡ addressesOf (fieldsOf t .marks) → (a e j : ℕ) → e ≡ indexOf l a →
+      j ≡ cond (ltb e (t .count)) e 0
       → markedSaid (markedIf (ltb e (t .count)) (getD (t .marks) j blankMark)) ≡ claimAt (fieldsOf t .marks) a
   held-claim l same a e j at slot =
       let i = indexOf (addressesOf (fieldsOf t .marks)) a in

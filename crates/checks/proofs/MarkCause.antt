@@ -30,7 +30,8 @@ use Rattle.checks.specs.inner.AtMark.{firstIn, secondIn, firstNext, seco
 abbrev pub causeThen : ℕ → ℕ → Verdict → Verdict
 causeThen n place v = cond (eqb n 0) v (Refuse (refusal n place))
 
-then-cond : (b : Bool) (n k place : ℕ) (v : Verdict) → causeThen (cond b n k) place v ≡ cond b (causeThen n place v) (causeThen k place v)
+then-cond : (b : Bool) (n k place : ℕ) (v : Verdict) → causeThen (cond b n k) place v
+    ≡ cond b (causeThen n place v) (causeThen k place v)
 then-cond true n k place v = refl
 then-cond false n k place v = refl
 
@@ -56,13 +57,15 @@ all-writes w Nowhere = refl
 all-writes w (Byte a) = and-true (holds w a)
 all-writes w (Word a) = simp and-true
 
-pub mark-cause : (f : Fields) (m : Mark) (s : Shape) (inside : Bool) (a b : Marked) → markedSaid a ≡ claimAt (f .marks) (firstNext s)
+pub mark-cause : (f : Fields) (m : Mark) (s : Shape) (inside : Bool) (a b : Marked) →
+    markedSaid a ≡ claimAt (f .marks) (firstNext s)
     → markedSaid b ≡ claimAt (f .marks) (secondNext s) → (cs : List Check) (v : Verdict)
     → firstFailing (checksBy f m (shapeSaid s) inside ++ cs) v
     ≡ causeThen (markCauseOf (f .header .«data») (m .claim) s inside a b) (m .address) (firstFailing cs v)
 unfolding markCauseOf
 mark-cause f m (Shape.Ordinary o) inside Unmarked b p q cs v = simp (all-successors, all-writes, ← p, then-cond)
-mark-cause f m (Shape.Ordinary o) inside (At x) Unmarked p q cs v = simp (all-successors, all-writes, ← p, ← q, then-cond)
+mark-cause f m (Shape.Ordinary o) inside (At x) Unmarked p q cs v =
+    simp (all-successors, all-writes, ← p, ← q, then-cond)
 mark-cause f m (Shape.Ordinary o) inside (At x) (At y) p q cs v = simp (all-successors, all-writes, ← p, ← q, then-cond)
 mark-cause f m (Shape.Call c) inside Unmarked b p q cs v = simp (← p, then-cond)
 mark-cause f m (Shape.Call c) inside (At x) Unmarked p q cs v = simp (← p, ← q, then-cond)

@@ -12,7 +12,8 @@ use Rattle.opcodes.proofs.Order.{le-or-lt}
 use Rattle.checks.specs.inner.Find.{Ascending, indexOf}
 
 -- an address that stands at i, and at no lower index
-index-here : (l : List ℕ) (a i : ℕ) → i < length l → getD l i 0 ≡ a → ((k : ℕ) → k < i → getD l k 0 < a) → i ≡ indexOf l a
+index-here : (l : List ℕ) (a i : ℕ) → i < length l → getD l i 0 ≡ a → ((k : ℕ) → k < i → getD l k 0 < a) →
+    i ≡ indexOf l a
 index-here [] a i h e below = absurd (omega arith)
 index-here (x ∷ xs) a zero h e below = simp (eq-eqb x a e)
 index-here (x ∷ xs) a (suc i) h e below =
@@ -43,7 +44,8 @@ between-all l a =
     }
 
 -- the search ends at the address, or past the list
-pub ends-here : (l : List ℕ) (a : ℕ) {low high : ℕ} → Between l a low high → low < length l → getD l low 0 ≡ a → low ≡ indexOf l a
+pub ends-here : (l : List ℕ) (a : ℕ) {low high : ℕ} → Between l a low high → low < length l → getD l low 0 ≡ a →
+    low ≡ indexOf l a
 ends-here l a {low} b h e = index-here l a low h e (b .below)
 
 pub ends-past : (l : List ℕ) (a : ℕ) {low high : ℕ} → Between l a low high → length l ≤ low → length l ≡ indexOf l a
@@ -54,7 +56,8 @@ module _ (l : List ℕ) (a : ℕ) (up : Ascending l) where
   rising i j g h = ⊎-elim (λ e. rw e (omega arith)) (λ q. omega (arith, up i j q h)) (eq-or-lt-of-le g)
 
   -- a turn goes on above `mid`, or below it
-  pub goes-up : (mid : ℕ) {low high : ℕ} → Between l a low high → mid < high → getD l mid 0 < a → Between l a (mid + 1) high
+  pub goes-up : (mid : ℕ) {low high : ℕ} → Between l a low high → mid < high → getD l mid 0 < a →
+      Between l a (mid + 1) high
   goes-up mid b h e =
       record {
         ordered = omega arith;
@@ -63,7 +66,8 @@ module _ (l : List ℕ) (a : ℕ) (up : Ascending l) where
         above = b .above;
       }
 
-  pub goes-down : (mid : ℕ) {low high : ℕ} → Between l a low high → low ≤ mid → mid < high → a ≤ getD l mid 0 → Between l a low mid
+  pub goes-down : (mid : ℕ) {low high : ℕ} → Between l a low high → low ≤ mid → mid < high → a ≤ getD l mid 0 →
+      Between l a low mid
   goes-down mid b g h e =
       record {
         ordered = g;
@@ -73,7 +77,8 @@ module _ (l : List ℕ) (a : ℕ) (up : Ascending l) where
       }
 
   -- where another address stands at `low`, all above it are higher
-  pub ends-other : {low high : ℕ} → Between l a low high → high ≤ low → low < length l → (getD l low 0 ≡ a → ⊥) → length l ≡ indexOf l a
+  pub ends-other : {low high : ℕ} → Between l a low high → high ≤ low → low < length l → (getD l low 0 ≡ a → ⊥) →
+      length l ≡ indexOf l a
   ends-other {low} b g h e =
       let at-or-past : (k : ℕ) → k < length l → low ≤ k → getD l k 0 ≡ a → ⊥ =
       λ k q s f. ⊎-elim (λ p. e (rw p f)) (λ r. omega (arith, up low k r q, b .above low g h)) (eq-or-lt-of-le s) in

@@ -29,7 +29,8 @@ use Rattle.checks.proofs.WholeCause.{whole-cause}
 -- the verdict where the image's length and the first i marks have passed
 unfoldable pub restOf : Fields → List ℕ → ℕ → Verdict
 restOf f image i =
-    firstFailing (checksOfMarks f image (drop i (f .marks)) ++ wholeChecks f) (acceptOf (f .header .entry) (claimAt (f .marks) (f .header .entry)))
+    firstFailing (checksOfMarks f image (drop i (f .marks)) ++ wholeChecks f)
+    (acceptOf (f .header .entry) (claimAt (f .marks) (f .header .entry)))
 
 module _ (f : Fields) (image : List ℕ) where
   pub verdict-short : (length image ≡ f .header .code .length → ⊥) → verdictOn f image ≡ Refuse (refusal 9 0)
@@ -40,10 +41,13 @@ module _ (f : Fields) (image : List ℕ) where
   unfolding verdictOn restOf
   verdict-start h = rw (eq-eqb (length image) (f .header .code .length) h)
 
-  pub verdict-mark : (i : ℕ) → i < length (f .marks) → (m : Mark) → getD (f .marks) i blankMark ≡ m → (s : Shape) (inside : Bool)
+  pub verdict-mark : (i : ℕ) → i < length (f .marks) → (m : Mark) → getD (f .marks) i blankMark ≡ m →
+      (s : Shape) (inside : Bool)
       → shapeSaid s ≡ shapeOf (imageFrom (f .header .code) image (m .address)) (m .address)
-      → inside ≡ leb (m .address + instructionSize (imageFrom (f .header .code) image (m .address))) (pastOf (f .header .code))
-      → (a b : Marked) → markedSaid a ≡ claimAt (f .marks) (firstNext s) → markedSaid b ≡ claimAt (f .marks) (secondNext s)
+      → inside ≡ leb (m .address + instructionSize (imageFrom (f .header .code) image (m .address)))
+      (pastOf (f .header .code))
+      → (a b : Marked) → markedSaid a ≡ claimAt (f .marks) (firstNext s) →
+      markedSaid b ≡ claimAt (f .marks) (secondNext s)
       → (n : ℕ) → n ≡ markCauseOf (f .header .«data») (m .claim) s inside a b
       → restOf f image i ≡ causeThen n (m .address) (restOf f image (suc i))
   unfolding restOf checksAt
@@ -51,7 +55,8 @@ module _ (f : Fields) (image : List ℕ) where
       rw (drop-cons (f .marks) i blankMark h, at, ← shaped, ← within, cause)
       (mark-cause f m s inside a b p q (checksOfMarks f image (drop (suc i) (f .marks)) ++ wholeChecks f) _)
 
-  pub verdict-end : (i : ℕ) → i ≡ length (f .marks) → (a : Marked) → markedSaid a ≡ claimAt (f .marks) (f .header .entry)
+  pub verdict-end : (i : ℕ) → i ≡ length (f .marks) → (a : Marked) →
+      markedSaid a ≡ claimAt (f .marks) (f .header .entry)
       → restOf f image i ≡ wholeOf (f .header) a
   unfolding restOf
   verdict-end i h a e = rw (h, drop-length) (whole-cause f a e)

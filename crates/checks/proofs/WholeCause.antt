@@ -10,6 +10,7 @@ use Rattle.checks.specs.inner.MarkCause.{markedSaid}
 use Rattle.checks.specs.inner.Whole.{wholeOf}
 
 pub whole-cause : (f : Fields) (a : Marked) → markedSaid a ≡ claimAt (f .marks) (f .header .entry)
-    → firstFailing (wholeChecks f) (acceptOf (f .header .entry) (claimAt (f .marks) (f .header .entry))) ≡ wholeOf (f .header) a
+    → firstFailing (wholeChecks f) (acceptOf (f .header .entry) (claimAt (f .marks) (f .header .entry)))
+    ≡ wholeOf (f .header) a
 whole-cause f Unmarked e = rw (← e)
 whole-cause f (At c) e = rw (← e)

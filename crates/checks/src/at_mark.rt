@@ -18,8 +18,8 @@ use crate::shape::Successors;
 use commands::header::Window;
 use commands::header::past;
 
-// Whether the instruction stays inside the code window; and for its first and its second successor, which mark is theirs. Where there is one successor it stands
-// twice, and where no mark is theirs the number is that of all marks.
+// Whether the instruction stays inside the code window; and for its first and its second successor, which mark is
+// theirs. Where there is one successor it stands twice, and where no mark is theirs the number is that of all marks.
 pub struct AtMark {
     pub shape: Shape,
     pub inside: bool,

@@ -48,7 +48,8 @@ fn shape_found(
     requires { ⌜ e ≡ costAt place ⌝ }
     requires { ⌜ map actionOf (now ta) ≡ actions ⌝ }
     requires { ⌜ map modeOf (now tm) ≡ modes ⌝ }
-    ensures { λ r. ⌜ (shapeSaid (r .shape) ≡ shapeIn place (instructionOf place u v w) a) × (r .size ≡ lengthAt place) ⌝ }
+    ensures { λ r. ⌜ (shapeSaid (r .shape) ≡ shapeIn place (instructionOf place u v w) a)
+        × (r .size ≡ lengthAt place) ⌝ }
 {
     let size = (e / 256) as u16;
     let after = wrapping_add(a, size);
@@ -78,7 +79,8 @@ pub fn shape_at(
     requires { ⌜ now tc ≡ costs ⌝ }
     requires { ⌜ map actionOf (now ta) ≡ actions ⌝ }
     requires { ⌜ map modeOf (now tm) ≡ modes ⌝ }
-    ensures { λ r. ⌜ (shapeSaid (r .shape) ≡ shapeOf (imageFrom code (now (image .entry)) a) a) × (r .size ≡ instructionSize (imageFrom code (now (image .entry)) a)) ⌝ }
+    ensures { λ r. ⌜ (shapeSaid (r .shape) ≡ shapeOf (imageFrom code (now (image .entry)) a) a)
+        × (r .size ≡ instructionSize (imageFrom code (now (image .entry)) a)) ⌝ }
 {
     let at = (a - code.start) as usize;
     match found_of(byte_in(image, at), byte_in(image, at + 1), tc) {

@@ -1,8 +1,10 @@
-// Document 01's causes 10 to 17 at a mark, on values: the mark's claim, the shape of its instruction and the claims at its successors.
+// Document 01's causes 10 to 17 at a mark, on values: the mark's claim, the shape of its instruction and the claims at
+// its successors.
 ghost use mathlib.Core.Path.{_≡_};
 ghost use Rattle.rules.specs.Checks.{depthAgrees, costCovers, needCovers};
 ghost use Rattle.checks.specs.inner.Said.{ordinarySaid};
-ghost use Rattle.checks.specs.inner.MarkCause.{inData, followsOf, ordinaryOf, calledOf, callOf, returnOf, markCauseOf};
+ghost use Rattle.checks.specs.inner.MarkCause.{inData, followsOf, ordinaryOf, calledOf, callOf, returnOf};
+ghost use Rattle.checks.specs.inner.MarkCause.{markCauseOf};
 use crate::shape::Ordinary;
 use crate::shape::Shape;
 use crate::shape::Writes;
@@ -148,8 +150,8 @@ fn return_from(k: Claim, cycles: Cycles) -> u8
     0
 }
 
-// The first cause that applies, or 0. `inside` says that the instruction does not leave the code window; a and b are the claims at the two addresses that
-// `first_next` and `second_next` name.
+// The first cause that applies, or 0. `inside` says that the instruction does not leave the code window; a and b are
+// the claims at the two addresses that `first_next` and `second_next` name.
 pub fn mark_cause(w: Window, k: Claim, s: Shape, inside: bool, a: Marked, b: Marked) -> u8
     ensures { λ r. ⌜ r ≡ markCauseOf w k s inside a b ⌝ }
 {

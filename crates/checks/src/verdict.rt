@@ -60,7 +60,8 @@ fn marked_if(known: bool, m: Mark) -> Marked
 
 // The first cause that applies at a mark, or 0; x and y are the marks of its successors, where they have any.
 fn cause_at(data: Window, m: Mark, s: AtMark, count: usize, x: Mark, y: Mark) -> u8
-    ensures { λ r. ⌜ r ≡ markCauseOf «data» (m .claim) (s .shape) (s .inside) (markedIf (ltb (s .first) count) x) (markedIf (ltb (s .second) count) y) ⌝ }
+    ensures { λ r. ⌜ r ≡ markCauseOf «data» (m .claim) (s .shape) (s .inside) (markedIf (ltb (s .first) count) x)
+        (markedIf (ltb (s .second) count) y) ⌝ }
 {
     let claim = m.claim;
     let shape = s.shape;

@@ -24,7 +24,8 @@ use Rattle.commands.specs.declared.parse.Parsed.{Parsed}
 use Rattle.commands.specs.declared.parse.Parsed.the-variants as Parsed
 use Rattle.commands.specs.declared.progress.Progress.{Progress}
 use Rattle.commands.proofs.Table.{Matched, nothing, one, matched, row-size}
-use Rattle.commands.proofs.Digits.{length-digits, number-digits, number-below, digits-number, bytes-take, bytes-drop}
+use Rattle.commands.proofs.Digits.{length-digits, number-digits, number-below, digits-number, bytes-take}
+use Rattle.commands.proofs.Digits.{bytes-drop}
 
 -- ---- a command, its byte and its operands
 
@@ -44,7 +45,8 @@ said (Command.Mark a m) = record { known-byte = refl; as-many = refl; same = ref
 said (Command.Name a t) = record { known-byte = refl; as-many = refl; same = refl }
 
 -- the command of a byte has that byte, and the operands that it was made with
-command-parts : (b : ℕ) (s : List ℕ) → b < length rows → (commandByteOf (commandOf b s) ≡ b) × (operandsOf (commandOf b s) ≡ operandsIn (rowOf b) s)
+command-parts : (b : ℕ) (s : List ℕ) → b < length rows → (commandByteOf (commandOf b s) ≡ b)
+    × (operandsOf (commandOf b s) ≡ operandsIn (rowOf b) s)
 unfolding commandOf
 command-parts zero s h = (refl, refl)
 command-parts (suc zero) s h = (refl, refl)
@@ -83,7 +85,8 @@ after-at p (Command.Name a t) = refl
 -- ---- the operands of a row
 
 -- what is joined is found again, whatever comes after it
-operands-joined : {row : List Operand} {vs : List ℕ} → FitsRow row vs → (s : List ℕ) → operandsIn row (joined row vs ++ s) ≡ vs
+operands-joined : {row : List Operand} {vs : List ℕ} → FitsRow row vs → (s : List ℕ) →
+    operandsIn row (joined row vs ++ s) ≡ vs
 operands-joined none s = refl
 operands-joined (more {o} {os} {v} {vs} l f) s =
     let w = widthIn o in
@@ -100,17 +103,24 @@ module _ (w : ℕ) (s : List ℕ) (a : AllBytes s) (room : w ≤ length s) where
   taken-below : number (take w s) < 256 ^ w
   taken-below = rw length-take-le at (number-below (take w s) (bytes-take w a))
 
-joined-operands : (row : List Operand) (s : List ℕ) → AllBytes s → sizeOf row ≤ length s → joined row (operandsIn row s) ≡ take (sizeOf row) s
+joined-operands : (row : List Operand) (s : List ℕ) → AllBytes s → sizeOf row ≤ length s →
+    joined row (operandsIn row s) ≡ take (sizeOf row) s
 joined-operands [] s a room = refl
 joined-operands (o ∷ os) s a room =
     let w = widthIn o in
-    rw (digits-taken w s a (omega arith), joined-operands os (drop w s) (bytes-drop w a) (simp length-drop (omega arith)), ← take-add)
+    rw (
+      digits-taken w s a (omega arith),
+      joined-operands os (drop w s) (bytes-drop w a)
+          (simp length-drop (omega arith)),
+      ← take-add,
+    )
 
 fits-operands : (row : List Operand) (s : List ℕ) → AllBytes s → sizeOf row ≤ length s → FitsRow row (operandsIn row s)
 fits-operands [] s a room = none
 fits-operands (o ∷ os) s a room =
     let w = widthIn o in
-    more (taken-below w s a (omega arith)) (fits-operands os (drop w s) (bytes-drop w a) (simp length-drop (omega arith)))
+    more (taken-below w s a (omega arith)) (fits-operands os (drop w s) (bytes-drop w a)
+    (simp length-drop (omega arith)))
 
 -- ---- reading
 
@@ -118,18 +128,21 @@ pub parse-encode : (c : Command) (s : List ℕ) → Fits c → parseOf (encodeOf
 unfolding parseOf encodeOf commandOf widthOf
 parse-encode c s f =
     let row = rowOf (commandByteOf c) in
-    let room : sizeOf row ≤ length (joined row (operandsOf c) ++ s) = simp length-append (omega (arith, length-encode c)) in
+    let room : sizeOf row ≤ length (joined row (operandsOf c) ++ s) =
+    simp length-append (omega (arith, length-encode c)) in
     rw (said c .known-byte, le-leb _ _ room, operands-joined f s, said c .same)
 
 module _ (b : ℕ) (s : List ℕ) (c : Command) where
-  picked : (k r : Bool) → cond k (cond r (Parsed.Found (commandOf b s)) Parsed.Cut) Parsed.Unknown ≡ Parsed.Found c → (k ≡ true) × (r ≡ true) × (commandOf b s ≡ c)
+  picked : (k r : Bool) → cond k (cond r (Parsed.Found (commandOf b s)) Parsed.Cut) Parsed.Unknown ≡ Parsed.Found c →
+      (k ≡ true) × (r ≡ true) × (commandOf b s ≡ c)
   picked true true e = (refl, refl, cc)
   picked true false e = (refl, cc, cc)
   picked false true e = (cc, refl, cc)
   picked false false e = (cc, cc, cc)
 
   -- what is read from a byte and those after it has that byte and their operands
-  parts : parseOf (b ∷ s) ≡ Parsed.Found c → (commandByteOf c ≡ b) × (operandsOf c ≡ operandsIn (rowOf b) s) × (sizeOf (rowOf b) ≤ length s)
+  parts : parseOf (b ∷ s) ≡ Parsed.Found c → (commandByteOf c ≡ b) × (operandsOf c ≡ operandsIn (rowOf b) s)
+      × (sizeOf (rowOf b) ≤ length s)
   unfolding parseOf
   parts e =
       let p = picked (known b) (leb (sizeOf (rowOf b)) (length s)) e in
@@ -146,7 +159,8 @@ unfolding widthOf
 parse-room [] c e = absurd (none-found c e)
 parse-room (b ∷ s) c e = let p = parts b s c e in rw (p .0) (omega (arith, p .2))
 
-pub encode-parse : (s : List ℕ) (c : Command) → AllBytes s → parseOf s ≡ Parsed.Found c → encodeOf c ++ drop (widthOf c) s ≡ s
+pub encode-parse : (s : List ℕ) (c : Command) → AllBytes s → parseOf s ≡ Parsed.Found c →
+    encodeOf c ++ drop (widthOf c) s ≡ s
 unfolding encodeOf widthOf
 encode-parse [] c a e = absurd (none-found c e)
 encode-parse (b ∷ s) c a e =

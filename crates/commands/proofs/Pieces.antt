@@ -11,7 +11,8 @@ use lib.Seq.{drop-cons, drop-drop, take-add, length-take-le}
 use Rattle.commands.specs.Number.{numberFrom, number}
 
 -- two bytes, the high one first
-pub pair : (s : List ℕ) (at : ℕ) → at + 2 ≤ length s → getD s at 0 * 256 + getD s (at + 1) 0 ≡ number (take 2 (drop at s))
+pub pair : (s : List ℕ) (at : ℕ) → at + 2 ≤ length s → getD s at 0 * 256 + getD s (at + 1) 0
+    ≡ number (take 2 (drop at s))
 pair s at h =
     let h₀ : at < length s = omega arith in
     let h₁ : suc at < length s = omega arith in
@@ -29,8 +30,10 @@ append v (b ∷ s) t = append (v * 256 + b) s t
 
 -- w bytes, then w more
 pub halves :
-    (w at : ℕ) (s : List ℕ) {high low : ℕ} → at + (w + w) ≤ length s → high ≡ number (take w (drop at s)) → low ≡ number (take w (drop (at + w) s))
+    (w at : ℕ) (s : List ℕ) {high low : ℕ} → at + (w + w) ≤ length s → high ≡ number (take w (drop at s)) →
+    low ≡ number (take w (drop (at + w) s))
     → high * 256 ^ w + low ≡ number (take (w + w) (drop at s))
 halves w at s fits h l =
-    let size : length (take w (drop (at + w) s)) ≡ w = length-take-le w (drop (at + w) s) (omega (arith, length-drop (at + w) s)) in
+    let size : length (take w (drop (at + w) s)) ≡ w =
+    length-take-le w (drop (at + w) s) (omega (arith, length-drop (at + w) s)) in
     sym (simp (take-add w w (drop at s), drop-drop w at s, append 0 (take w (drop at s)), shifted, size, ← h, ← l))

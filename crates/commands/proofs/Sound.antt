@@ -50,7 +50,8 @@ bounds {p} s =
 short : (w : Window) → rangesHold (Command.Window Code w) ≡ true → w .length ≤ 4096
 unfolding rangesHold
 short w e =
-    leb-true (w .length) 4096 (and-eq-true-iff (leb 1 (w .length)) _ .0 (and-eq-true-iff (between 1 4096 (w .length)) true .0 e .0) .1)
+    leb-true (w .length) 4096 (and-eq-true-iff (leb 1 (w .length)) _ .0
+    (and-eq-true-iff (between 1 4096 (w .length)) true .0 e .0) .1)
 
 module _ (p : Progress) (s : Sound p) where
   to-window : (h : Header) → p .stage < 3 → h .code .length ≤ 4096 → Sound (stagedOf p 5 h)
@@ -120,7 +121,8 @@ pub sound-after : (p : Progress) (c : Command) → Sound p → commandCauseOf p 
 sound-after p c s e = after p s c (allowed p c e)
 
 module _ (p : Progress) (c : Command) (s : Sound p) where
-  picked : (r : Refusal) (b : Bool) → eqb (commandCauseOf p c) 0 ≡ b → SoundSoFar (cond b (Next (afterOf p c)) (Refused r))
+  picked : (r : Refusal) (b : Bool) → eqb (commandCauseOf p c) 0 ≡ b →
+      SoundSoFar (cond b (Next (afterOf p c)) (Refused r))
   picked r true e = sound (sound-after p c s (eqb-true _ _ e))
   picked r false e = stopped
 

@@ -1,4 +1,5 @@
--- The code's rows are those of the table, with four operands each; what four operands come to is what those of a row come to.
+-- The code's rows are those of the table, with four operands each; what four operands come to is what those of a row
+-- come to.
 -- Assumes nothing.
 use mathlib.Core.Path.{_≡_, refl, subst}
 use mathlib.Core.Bool.{Bool, true, false, _&&_, _||_, and-eq-true-iff, true≢false, and-true}
@@ -16,7 +17,8 @@ use Rattle.commands.specs.Bytes.{joined, operandsIn}
 use Rattle.commands.specs.Cause.{allInRange}
 use Rattle.commands.specs.declared.row.Row.{Row as CodeRow}
 use Rattle.commands.specs.declared.command.Operands.{Operands}
-use Rattle.commands.specs.inner.Table.{codeOperand, operandAt, codeRow, codeSize, codeValues, valuesIn, FitsCode, inRangeCode, Widths, Width, none, word, long, quad}
+use Rattle.commands.specs.inner.Table.{codeOperand, operandAt, codeRow, codeSize, codeValues, valuesIn, FitsCode}
+use Rattle.commands.specs.inner.Table.{inRangeCode, Widths, Width, none, word, long, quad}
 
 -- ---- the rows
 
@@ -53,9 +55,12 @@ row-short b = leb-true _ _ (and-eq-true-iff _ _ .0 (row-taken b) .0)
 
 pub row-size : (b : ℕ) → sizeOf (rowOf b) ≤ 10
 unfolding taken
-row-size b = leb-true _ _ (and-eq-true-iff (allWide (rowOf b)) _ .0 (and-eq-true-iff (leb (length (rowOf b)) 4) _ .0 (row-taken b) .1) .1)
+row-size b =
+    leb-true _ _ (and-eq-true-iff (allWide (rowOf b)) _ .0 (and-eq-true-iff (leb (length (rowOf b)) 4) _ .0
+    (row-taken b) .1) .1)
 
-by-test : (w : ℕ) (a b c d : Bool) → eqb w 0 ≡ a → eqb w 2 ≡ b → eqb w 4 ≡ c → eqb w 8 ≡ d → (a || (b || (c || d))) ≡ true → Width w
+by-test : (w : ℕ) (a b c d : Bool) → eqb w 0 ≡ a → eqb w 2 ≡ b → eqb w 4 ≡ c → eqb w 8 ≡ d →
+    (a || (b || (c || d))) ≡ true → Width w
 by-test w true b c d e₀ e₂ e₄ e₈ t = rw (eqb-true w 0 e₀) none
 by-test w false true c d e₀ e₂ e₄ e₈ t = rw (eqb-true w 2 e₂) word
 by-test w false false true d e₀ e₂ e₄ e₈ t = rw (eqb-true w 4 e₄) long
@@ -70,13 +75,16 @@ operand-width (text w) = refl
 width-at : (os : List Operand) → allWide os ≡ true → (i : ℕ) → Width (operandAt os i .width)
 unfolding allWide wide
 width-at [] e i = none
-width-at (o ∷ os) e zero = rw (operand-width o) (by-test (widthIn o) _ _ _ _ refl refl refl refl (and-eq-true-iff _ _ .0 e .0))
+width-at (o ∷ os) e zero =
+    rw (operand-width o) (by-test (widthIn o) _ _ _ _ refl refl refl refl (and-eq-true-iff _ _ .0 e .0))
 width-at (o ∷ os) e (suc i) = width-at os (and-eq-true-iff (wide (widthIn o)) _ .0 e .1) i
 
 -- the width of each operand of a row is one that the code reads and writes
 pub row-width : (b i : ℕ) → Width (operandAt (rowOf b) i .width)
 unfolding taken
-row-width b i = width-at (rowOf b) (and-eq-true-iff (allWide (rowOf b)) _ .0 (and-eq-true-iff (leb (length (rowOf b)) 4) _ .0 (row-taken b) .1) .0) i
+row-width b i =
+    width-at (rowOf b) (and-eq-true-iff (allWide (rowOf b)) _ .0
+    (and-eq-true-iff (leb (length (rowOf b)) 4) _ .0 (row-taken b) .1) .0) i
 
 pub last-width : (w : ℕ) → Width w → (w ≡ 0 → ⊥) → (w ≡ 2 → ⊥) → (w ≡ 4 → ⊥) → w ≡ 8
 last-width w none z t f = absurd (z refl)
@@ -125,7 +133,8 @@ joined-code nothing l = refl
 joined-code (one {o} nothing) l = simp (operand-width, append-nil)
 joined-code (one {o} (one {o = p} nothing)) l = simp (operand-width, append-nil)
 joined-code (one {o} (one {o = p} (one {o = q} nothing))) l = simp (operand-width, append-nil, append-assoc)
-joined-code (one {o} (one {o = p} (one {o = q} (one {o = r} nothing)))) l = simp (operand-width, append-nil, append-assoc)
+joined-code (one {o} (one {o = p} (one {o = q} (one {o = r} nothing)))) l =
+    simp (operand-width, append-nil, append-assoc)
 joined-code (one (one (one (one (one m))))) l = absurd (omega arith)
 
 -- ---- ranges
@@ -151,7 +160,8 @@ ranges-code : {os : List Operand} {vs : List ℕ} → Matched os vs → length o
 ranges-code nothing l h = refl
 ranges-code (one {o} nothing) l h = simp (in-range o _ (h .0))
 ranges-code (one {o} (one {o = p} nothing)) l h = simp (in-range o _ (h .0), in-range p _ (h .1))
-ranges-code (one {o} (one {o = p} (one {o = q} nothing))) l h = simp (in-range o _ (h .0), in-range p _ (h .1), in-range q _ (h .2))
+ranges-code (one {o} (one {o = p} (one {o = q} nothing))) l h =
+    simp (in-range o _ (h .0), in-range p _ (h .1), in-range q _ (h .2))
 ranges-code (one {o} (one {o = p} (one {o = q} (one {o = r} nothing)))) l h =
     simp (in-range o _ (h .0), in-range p _ (h .1), in-range q _ (h .2), in-range r _ (h .3), and-true)
 ranges-code (one (one (one (one (one m))))) l h = absurd (omega arith)
@@ -183,6 +193,7 @@ module _ (b : ℕ) (row : CodeRow) (e : row ≡ codeRow (rowOf b)) where
     row-joined = rw (e, f) (joined-code (matched (rowOf b) vs same) (row-short b))
 
     pub row-ranges : Bounded v
-        → (inRangeCode (row .first) (v .first) && (inRangeCode (row .second) (v .second) && (inRangeCode (row .third) (v .third) && inRangeCode (row .fourth) (v .fourth))))
+        → (inRangeCode (row .first) (v .first) && (inRangeCode (row .second) (v .second) &&
+        (inRangeCode (row .third) (v .third) && inRangeCode (row .fourth) (v .fourth))))
         ≡ allInRange (rowOf b) vs
     row-ranges h = rw (e, f) (ranges-code (matched (rowOf b) vs same) (row-short b) (subst Bounded f h))

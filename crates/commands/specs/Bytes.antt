@@ -1,4 +1,5 @@
--- A command as bytes: its byte, then its operands by their widths (document 01, "The ticket"); and the command that some bytes begin with.
+-- A command as bytes: its byte, then its operands by their widths (document 01, "The ticket"); and the command that
+-- some bytes begin with.
 -- Assumes nothing.
 use Prim.Native.Nat.{ℕ, _+_}
 use mathlib.Core.Bool.{cond}

@@ -1,4 +1,5 @@
--- Why a command is refused after those before it: document 01's causes 3 to 7, in its table's order ("The ticket", "Where a ticket stops").
+-- Why a command is refused after those before it: document 01's causes 3 to 7, in its table's order ("The ticket",
+-- "Where a ticket stops").
 -- Assumes nothing.
 use Prim.Native.Nat.{ℕ}
 use mathlib.Core.Bool.{Bool, true, cond, not, _&&_, _||_}
@@ -21,8 +22,8 @@ stageOf Code = 0
 stageOf Data = 1
 stageOf Stack = 2
 
--- 3: $01 to $04 once each, in that order, before all others; marks in rising address, none equal; a name at once after its mark, same address, at
--- most one; nothing is read after the end
+-- 3: $01 to $04 once each, in that order, before all others; marks in rising address, none equal; a name at once after
+-- its mark, same address, at most one; nothing is read after the end
 abbrev pub inOrder : Progress → Command → Bool
 inOrder p (Command.Window k w) = eqb (p .stage) (stageOf k)
 inOrder p (Command.Entry a l) = eqb (p .stage) 3

@@ -1,4 +1,5 @@
--- A command whose operands fit their widths, as those of every value of the code's types do (document 01, "The ticket": how many bytes an operand has).
+-- A command whose operands fit their widths, as those of every value of the code's types do (document 01, "The ticket":
+-- how many bytes an operand has).
 -- Assumes nothing.
 use Prim.Native.Nat.{ℕ, _^_, _<_}
 use mathlib.Core.List.{List, [], _∷_}
@@ -8,7 +9,8 @@ use Rattle.commands.specs.declared.command.Command.{Command}
 
 pub data FitsRow : List Operand → List ℕ → Type 0 where
   none : FitsRow [] []
-  more : {o : Operand} {os : List Operand} {v : ℕ} {vs : List ℕ} → v < 256 ^ widthIn o → FitsRow os vs → FitsRow (o ∷ os) (v ∷ vs)
+  more : {o : Operand} {os : List Operand} {v : ℕ} {vs : List ℕ} → v < 256 ^ widthIn o → FitsRow os vs →
+      FitsRow (o ∷ os) (v ∷ vs)
 
 abbrev pub Fits : Command → Type 0
 Fits c = FitsRow (rowOf (commandByteOf c)) (operandsOf c)

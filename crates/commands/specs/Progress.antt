@@ -26,7 +26,14 @@ markedOf p width a =
 -- a name
 abbrev pub namedOf : Progress → ℕ → Progress
 namedOf p width =
-    record { at = p .at + width; stage = p .stage; header = p .header; count = p .count; last = p .last; nameable = false }
+    record {
+      at = p .at + width;
+      stage = p .stage;
+      header = p .header;
+      count = p .count;
+      last = p .last;
+      nameable = false;
+    }
 
 abbrev pub afterWidth : ℕ → Progress → Command → Progress
 afterWidth width p (Command.Window k w) = stagedOf p width (withWindow k (p .header) w)

@@ -25,7 +25,8 @@ pub fn width_of(c: Command) -> u32
 // Two operands at an offset of the output; the offset after them.
 fn put_pair(o: Operand, v: u64, p: Operand, w: u64, out: &mut [u8], at: usize) -> usize
     requires { ⌜ Width (o .width) × Width (p .width) × (at + o .width + p .width ≤ length (now out)) ⌝ }
-    ensures { λ r. ⌜ (now (out .exit) ≡ spliced (now (out .entry)) at (digits (o .width) v ++ digits (p .width) w)) × (r ≡ at + o .width + p .width) ⌝ }
+    ensures { λ r. ⌜ (now (out .exit) ≡ spliced (now (out .entry)) at (digits (o .width) v ++ digits (p .width) w))
+        × (r ≡ at + o .width + p .width) ⌝ }
 {
     let next = put_number(v, o.width, out, at);
     put_number(w, p.width, out, next)

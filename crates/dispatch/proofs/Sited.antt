@@ -8,18 +8,26 @@ use native.Mathlib.Omega.{arith}
 use Rattle.registers.specs.declared.Registers.{Registers}
 use Rattle.memory.specs.Memory.{wordAt}
 use Rattle.opcodes.specs.Decode.{operandOf}
-use Rattle.opcodes.specs.inner.Fits.{memoryMode, byteMode, wordMode, callMode, relativeMode, maskMode, maskBranchMode, fits}
+use Rattle.opcodes.specs.inner.Fits.{memoryMode, byteMode, wordMode, callMode, relativeMode, maskMode, maskBranchMode}
+use Rattle.opcodes.specs.inner.Fits.{fits}
 use Rattle.instructions.specs.Form.{addressIn, targetIn}
 use Rattle.opcodes.specs.declared.instruction.Action.{Action}
-use Rattle.opcodes.specs.declared.instruction.Action.the-variants.{Inherent, Unary, TstAccumulator, Binary, TstMemory, LoadWord, Addd, Subd, CompareWord, StoreByte, StoreWord, Modify, Bset, Bclr, Brset, Brclr, Branch, Jmp, Call, Rts, PushByte, PushWord, PullByte, PullWord, Des, Ins, SetStack, Swi, Rti, Wai, Stop, Test}
+use Rattle.opcodes.specs.declared.instruction.Action.the-variants.{Inherent, Unary, TstAccumulator, Binary, TstMemory}
+use Rattle.opcodes.specs.declared.instruction.Action.the-variants.{LoadWord, Addd, Subd, CompareWord, StoreByte}
+use Rattle.opcodes.specs.declared.instruction.Action.the-variants.{StoreWord, Modify, Bset, Bclr, Brset, Brclr, Branch}
+use Rattle.opcodes.specs.declared.instruction.Action.the-variants.{Jmp, Call, Rts, PushByte, PushWord, PullByte}
+use Rattle.opcodes.specs.declared.instruction.Action.the-variants.{PullWord, Des, Ins, SetStack, Swi, Rti, Wai, Stop}
+use Rattle.opcodes.specs.declared.instruction.Action.the-variants.{Test}
 use Rattle.opcodes.specs.declared.instruction.Mode.{Mode}
 use Rattle.opcodes.specs.declared.instruction.Mode.the-variants as Mode
 use Rattle.instructions.specs.Operand.{addressOf, operandAddress, byteOperand, wordOperand, maskOf}
-use Rattle.instructions.specs.inner.Sited.{operandFrom, addressAt, ByteThere, WordThere, Stands, MaskThere, OffsetThere, Sited}
+use Rattle.instructions.specs.inner.Sited.{operandFrom, addressAt, ByteThere, WordThere, Stands, MaskThere, OffsetThere}
+use Rattle.instructions.specs.inner.Sited.{Sited}
 
 module _ (from : ℕ) (r : Registers) (m : List ℕ) where
   -- a place in memory
-  in-memory : (k : Mode) → memoryMode k ≡ true → Stands (operandFrom k from m) r (addressAt k from r m) × ByteThere (operandFrom k from m) r m (addressAt k from r m)
+  in-memory : (k : Mode) → memoryMode k ≡ true → Stands (operandFrom k from m) r (addressAt k from r m)
+      × ByteThere (operandFrom k from m) r m (addressAt k from r m)
   unfolding operandOf addressAt addressOf addressIn operandAddress byteOperand wordAt
   in-memory Mode.Inherent f = absurd (true≢false (sym f))
   in-memory Mode.Immediate8 f = absurd (true≢false (sym f))
@@ -109,7 +117,8 @@ module _ (from : ℕ) (r : Registers) (m : List ℕ) where
   branched Mode.MaskBranchY f = absurd (true≢false (sym f))
 
   -- a place in memory and a mask
-  masked : (k : Mode) → maskMode k ≡ true → Stands (operandFrom k from m) r (addressAt k from r m) × (ByteThere (operandFrom k from m) r m (addressAt k from r m) × MaskThere (operandFrom k from m) m from)
+  masked : (k : Mode) → maskMode k ≡ true → Stands (operandFrom k from m) r (addressAt k from r m)
+      × (ByteThere (operandFrom k from m) r m (addressAt k from r m) × MaskThere (operandFrom k from m) m from)
   unfolding operandOf addressAt addressOf addressIn operandAddress byteOperand maskOf
   masked Mode.Inherent f = absurd (true≢false (sym f))
   masked Mode.Immediate8 f = absurd (true≢false (sym f))
@@ -127,7 +136,8 @@ module _ (from : ℕ) (r : Registers) (m : List ℕ) where
   masked Mode.MaskBranchY f = absurd (true≢false (sym f))
 
   -- a place in memory, a mask and a target
-  tested : (k : Mode) → maskBranchMode k ≡ true → ByteThere (operandFrom k from m) r m (addressAt k from r m) × (MaskThere (operandFrom k from m) m from × OffsetThere (operandFrom k from m) r m from)
+  tested : (k : Mode) → maskBranchMode k ≡ true → ByteThere (operandFrom k from m) r m (addressAt k from r m)
+      × (MaskThere (operandFrom k from m) m from × OffsetThere (operandFrom k from m) r m from)
   unfolding operandOf addressAt addressOf addressIn operandAddress byteOperand maskOf targetIn
   tested Mode.Inherent f = absurd (true≢false (sym f))
   tested Mode.Immediate8 f = absurd (true≢false (sym f))

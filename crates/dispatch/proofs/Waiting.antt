@@ -12,7 +12,12 @@ use Rattle.opcodes.specs.inner.Numbers.{allActions, actionOf}
 use Rattle.instructions.specs.Form.{targetIn, waits}
 use Rattle.instructions.specs.Entry.{formOf}
 use Rattle.opcodes.specs.declared.instruction.Action.{Action}
-use Rattle.opcodes.specs.declared.instruction.Action.the-variants.{Inherent, Unary, TstAccumulator, Binary, TstMemory, LoadWord, Addd, Subd, CompareWord, StoreByte, StoreWord, Modify, Bset, Bclr, Brset, Brclr, Branch, Jmp, Call, Rts, PushByte, PushWord, PullByte, PullWord, Des, Ins, SetStack, Swi, Rti, Wai, Stop, Test}
+use Rattle.opcodes.specs.declared.instruction.Action.the-variants.{Inherent, Unary, TstAccumulator, Binary, TstMemory}
+use Rattle.opcodes.specs.declared.instruction.Action.the-variants.{LoadWord, Addd, Subd, CompareWord, StoreByte}
+use Rattle.opcodes.specs.declared.instruction.Action.the-variants.{StoreWord, Modify, Bset, Bclr, Brset, Brclr, Branch}
+use Rattle.opcodes.specs.declared.instruction.Action.the-variants.{Jmp, Call, Rts, PushByte, PushWord, PullByte}
+use Rattle.opcodes.specs.declared.instruction.Action.the-variants.{PullWord, Des, Ins, SetStack, Swi, Rti, Wai, Stop}
+use Rattle.opcodes.specs.declared.instruction.Action.the-variants.{Test}
 use Rattle.opcodes.specs.declared.instruction.Address.the-variants.{Fixed}
 use Rattle.opcodes.specs.declared.instruction.Operand.the-variants as Operand
 use Rattle.instructions.specs.declared.form.Form.the-variants.{Computes, Branches, Jumps}
@@ -21,7 +26,8 @@ use Rattle.instructions.specs.inner.Sited.{Waiting}
 abbrev waitsBare : Action → Bool
 waitsBare a = waits (formOf a Operand.Inherent 0)
 
-branch-on : (always never : Bool) (t : ℕ) → waits (cond always (Jumps (Fixed t)) (cond never Computes (Branches t))) ≡ false
+branch-on : (always never : Bool) (t : ℕ) → waits (cond always (Jumps (Fixed t)) (cond never Computes (Branches t)))
+    ≡ false
 branch-on true b t = refl
 branch-on false true t = refl
 branch-on false false t = refl
@@ -46,7 +52,8 @@ alike Bclr o next = refl
 alike Brset o next = refl
 alike Brclr o next = refl
 alike (Branch k) o next =
-    let on = branch-on (eqb (k % 16) 0) (eqb (k % 16) 1) in on (targetIn o next) ∙ sym (on (targetIn Operand.Inherent 0))
+    let on =
+    branch-on (eqb (k % 16) 0) (eqb (k % 16) 1) in on (targetIn o next) ∙ sym (on (targetIn Operand.Inherent 0))
 alike Jmp o next = refl
 alike Call o next = refl
 alike Rts o next = refl

@@ -1,7 +1,7 @@
 // An inner crate: one instruction, by the number of its action (opcodes/specs/inner/Numbers.antt). An arm calls the
-// instruction with its case as a constant, and a match has fewer than fifty arms, so that the compiler takes each arm into
-// the loop that runs the instructions. `_` stands for no number of a group. tools/opcode_tables.py writes an arm's number,
-// by the name behind it.
+// instruction with its case as a constant, and a match has fewer than fifty arms, so that the compiler takes each arm
+// into the loop that runs the instructions. `_` stands for no number of a group. tools/opcode_tables.py writes an arm's
+// number, by the name behind it.
 ghost use mathlib.Core.Path.{_≡_};
 ghost use mathlib.Core.Bool.{true};
 ghost use lib.ListN.{length};
@@ -255,7 +255,8 @@ pub fn execute(n: u8, k: u8, from: u16, r: Registers, mem: &mut [u8]) -> Registe
     requires { ⌜ length (now mem) ≡ 65536 ⌝ }
     requires { ⌜ n < 135 ⌝ }
     requires { ⌜ fits (actionOf n) (modeOf k) ≡ true ⌝ }
-    ensures { λ q. ⌜ Executed (effectOf (actionOf n) (operandFrom (modeOf k) from (now (mem .entry))) r (now (mem .entry))) q (now (mem .entry)) (now (mem .exit)) ⌝ }
+    ensures { λ q. ⌜ Executed (effectOf (actionOf n) (operandFrom (modeOf k) from (now (mem .entry))) r
+        (now (mem .entry))) q (now (mem .entry)) (now (mem .exit)) ⌝ }
 {
     if n < 67 {
         if n < 30 {

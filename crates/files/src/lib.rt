@@ -9,7 +9,8 @@ pub struct File {
     pub length: usize,
 }
 
-// A file that is longer, or that cannot be opened or read to its end, does not fit. One more byte is asked for: its absence tells the end from a failure, and from more to come.
+// A file that is longer, or that cannot be opened or read to its end, does not fit. One more byte is asked for: its
+// absence tells the end from a failure, and from more to come.
 pub fn load(name: &[u8], buf: &mut [u8]) -> File
     ensures { λ r. ⌜ Counts (r .length) (now (buf .exit)) ⌝ }
 {

@@ -1,5 +1,5 @@
--- A branch goes to its target where its test holds, and on where not. BRA has the form of a jump, as its test always holds, and BRN that of an
--- instruction that only computes, as its test never does.
+-- A branch goes to its target where its test holds, and on where not. BRA has the form of a jump, as its test always
+-- holds, and BRN that of an instruction that only computes, as its test never does.
 -- Assumes nothing.
 use mathlib.Core.Path.{_≡_, refl, sym, subst, _∙_, ap}
 use mathlib.Core.Bool.{Bool, true, false, cond}
@@ -30,14 +30,17 @@ by-form (suc zero) t taken r m always never = simp (never refl)
 by-form (suc (suc j)) t taken r m always never = simp (eqb·suc-zero, eqb·suc-suc (suc j) 0)
 
 branched : (k : ℕ) (o : Operand) (r : Registers) (m : List ℕ)
-    → effectOf (Branch k) o r m ≡ effect (withPc r (cond (holdsOf k (flagsOf (r .flags))) (targetIn o (r .pc)) (r .pc))) []
+    → effectOf (Branch k) o r m ≡ effect (withPc r (cond (holdsOf k (flagsOf (r .flags))) (targetIn o (r .pc)) (r .pc)))
+    []
 unfolding effectOf formOf outcomeOf holdsOf
 branched k o r m =
     let f = flagsOf (r .flags) in
     let held : ℕ → Bool = λ j. bit (truthIndex f) (getD truthWords j 0) in
-    by-form (k % 16) (targetIn o (r .pc)) (held (k % 16)) r m (λ e. ap held e ∙ truth 0 (omega arith) f) (λ e. ap held e ∙ truth 1 (omega arith) f)
+    by-form (k % 16) (targetIn o (r .pc)) (held (k % 16)) r m (λ e. ap held e ∙ truth 0 (omega arith) f)
+    (λ e. ap held e ∙ truth 1 (omega arith) f)
 
-pub goes : (k t : ℕ) (r q : Registers) → q ≡ withPc r (cond (holdsOf k (flagsOf (r .flags))) t (r .pc)) → GoesTo (Branch k) t r q
+pub goes : (k t : ℕ) (r q : Registers) → q ≡ withPc r (cond (holdsOf k (flagsOf (r .flags))) t (r .pc)) →
+    GoesTo (Branch k) t r q
 goes k t r q e o m s =
     subst (λ (z : Effect). Executed z q m m) (sym (branched k o r m))
     (e ∙ ap (λ (i : ℕ). withPc r (cond (holdsOf k (flagsOf (r .flags))) i (r .pc))) (sym s), refl)

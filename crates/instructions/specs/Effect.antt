@@ -1,5 +1,6 @@
--- The effect of an instruction, as data: the registers afterwards and the stores in order. PC, SP and the addresses stored to come from
--- the form, the rest from what is computed over values (the manual's "Operation" of each entry; document 01, "The machine").
+-- The effect of an instruction, as data: the registers afterwards and the stores in order. PC, SP and the addresses
+-- stored to come from the form, the rest from what is computed over values (the manual's "Operation" of each entry;
+-- document 01, "The machine").
 -- Assumes nothing.
 use Prim.Native.Nat.{ℕ}
 use mathlib.Core.Bool.{cond}
@@ -12,7 +13,10 @@ use Rattle.instructions.specs.Entry.{formOf, readsOf, outcomeOf}
 use Rattle.opcodes.specs.declared.instruction.Action.{Action}
 use Rattle.opcodes.specs.declared.instruction.Operand.{Operand}
 use Rattle.instructions.specs.declared.form.Form.{Form}
-use Rattle.instructions.specs.declared.form.Form.the-variants.{Computes, StoresByte, StoresWord, PushesByte, PushesWord, PullsByte, PullsWord, Reserves, Releases, Branches, Jumps, Calls, Returns, MovesSp, Interrupts, Resumes, Waits}
+use Rattle.instructions.specs.declared.form.Form.the-variants.{Computes, StoresByte, StoresWord, PushesByte}
+use Rattle.instructions.specs.declared.form.Form.the-variants.{PushesWord, PullsByte, PullsWord, Reserves}
+use Rattle.instructions.specs.declared.form.Form.the-variants.{Releases, Branches, Jumps, Calls, Returns, MovesSp}
+use Rattle.instructions.specs.declared.form.Form.the-variants.{Interrupts, Resumes, Waits}
 use Rattle.instructions.specs.Operand.{addressOf, inputOf, maskOf}
 use Rattle.instructions.specs.Outcome.{Outcome}
 use Rattle.instructions.specs.Interrupt.{stackedOf, interruptedOf, resumedOf}

@@ -9,17 +9,27 @@ use Rattle.registers.specs.declared.Data.{Data}
 use Rattle.registers.specs.declared.Registers.{Registers}
 use Rattle.opcodes.specs.Conditions.{holdsOf}
 use Rattle.opcodes.specs.declared.instruction.Action.{Action}
-use Rattle.opcodes.specs.declared.instruction.Action.the-variants.{Inherent, Unary, TstAccumulator, Binary, TstMemory, LoadWord, Addd, Subd, CompareWord, StoreByte, StoreWord, Modify, Bset, Bclr, Brset, Brclr, Branch, Jmp, Call, Rts, PushByte, PushWord, PullByte, PullWord, Des, Ins, SetStack, Swi, Rti, Wai, Stop, Test}
+use Rattle.opcodes.specs.declared.instruction.Action.the-variants.{Inherent, Unary, TstAccumulator, Binary, TstMemory}
+use Rattle.opcodes.specs.declared.instruction.Action.the-variants.{LoadWord, Addd, Subd, CompareWord, StoreByte}
+use Rattle.opcodes.specs.declared.instruction.Action.the-variants.{StoreWord, Modify, Bset, Bclr, Brset, Brclr, Branch}
+use Rattle.opcodes.specs.declared.instruction.Action.the-variants.{Jmp, Call, Rts, PushByte, PushWord, PullByte}
+use Rattle.opcodes.specs.declared.instruction.Action.the-variants.{PullWord, Des, Ins, SetStack, Swi, Rti, Wai, Stop}
+use Rattle.opcodes.specs.declared.instruction.Action.the-variants.{Test}
 use Rattle.opcodes.specs.declared.instruction.Operand.{Operand}
 use Rattle.arithmetic.specs.Byte.{unaryOf, binaryOf, bsetOf, bclrOf, tstOf}
 use Rattle.arithmetic.specs.Word.{add16Of, sub16Of, logic16Of}
 use Rattle.instructions.specs.declared.form.Form.{Form}
-use Rattle.instructions.specs.declared.form.Form.the-variants.{Computes, StoresByte, StoresWord, PushesByte, PushesWord, PullsByte, PullsWord, Reserves, Releases, Branches, Jumps, Calls, Returns, MovesSp, Interrupts, Resumes, Waits}
+use Rattle.instructions.specs.declared.form.Form.the-variants.{Computes, StoresByte, StoresWord, PushesByte}
+use Rattle.instructions.specs.declared.form.Form.the-variants.{PushesWord, PullsByte, PullsWord, Reserves}
+use Rattle.instructions.specs.declared.form.Form.the-variants.{Releases, Branches, Jumps, Calls, Returns, MovesSp}
+use Rattle.instructions.specs.declared.form.Form.the-variants.{Interrupts, Resumes, Waits}
 use Rattle.instructions.specs.Form.{always, atOperand, toTarget, branchForm, loadForm}
 use Rattle.instructions.specs.Operand.{Reads, nothing, operandByte, operandWord, pulledByte, pulledWord}
 use Rattle.instructions.specs.Inherent.{codes, toD, inherentOf}
-use Rattle.instructions.specs.Named.{accumulatorOf, withAccumulator, toAccumulator, indexRegisterOf, withIndex, wordRegisterOf, toWord}
-use Rattle.instructions.specs.Outcome.{Outcome, computes, gives, branches, stays, tested8, tested16, modifies, allSet, noneSet}
+use Rattle.instructions.specs.Named.{accumulatorOf, withAccumulator, toAccumulator, indexRegisterOf, withIndex}
+use Rattle.instructions.specs.Named.{wordRegisterOf, toWord}
+use Rattle.instructions.specs.Outcome.{Outcome, computes, gives, branches, stays, tested8, tested16, modifies}
+use Rattle.instructions.specs.Outcome.{allSet, noneSet}
 
 -- what is read; the form, by the operand and the address after the instruction; and what is computed of the mask k of a
 -- bit instruction, the value v that was read, SP and the other registers d

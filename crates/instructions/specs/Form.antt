@@ -13,7 +13,10 @@ use Rattle.opcodes.specs.declared.instruction.Address.the-variants.{Fixed, Inde
 use Rattle.opcodes.specs.declared.instruction.Operand.{Operand}
 use Rattle.opcodes.specs.declared.instruction.Operand.the-variants as Operand
 use Rattle.instructions.specs.declared.form.Form.{Form}
-use Rattle.instructions.specs.declared.form.Form.the-variants.{Computes, StoresByte, StoresWord, PushesByte, PushesWord, PullsByte, PullsWord, Reserves, Releases, Branches, Jumps, Calls, Returns, MovesSp, Interrupts, Resumes, Waits}
+use Rattle.instructions.specs.declared.form.Form.the-variants.{Computes, StoresByte, StoresWord, PushesByte}
+use Rattle.instructions.specs.declared.form.Form.the-variants.{PushesWord, PullsByte, PullsWord, Reserves}
+use Rattle.instructions.specs.declared.form.Form.the-variants.{Releases, Branches, Jumps, Calls, Returns, MovesSp}
+use Rattle.instructions.specs.declared.form.Form.the-variants.{Interrupts, Resumes, Waits}
 
 -- where the operand stands, or where a jump goes. An inherent or immediate operand names no address
 unfoldable pub addressIn : Operand → ℕ → Address

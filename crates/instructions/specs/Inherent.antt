@@ -9,7 +9,10 @@ use Rattle.registers.specs.Registers.{accumulatorD, withA, withB, withD, withX,
 use Rattle.registers.specs.declared.Data.{Data}
 use Rattle.registers.specs.declared.flags.Flags.{Flags}
 use Rattle.opcodes.specs.declared.instruction.Inherent.{Inherent}
-use Rattle.opcodes.specs.declared.instruction.Inherent.the-variants.{Nop, Idiv, Fdiv, Lsrd, Asld, Tap, Tpa, Inx, Dex, Iny, Dey, Clv, Sev, Clc, Sec, Cli, Sei, Sba, Cba, Tab, Tba, Daa, Aba, Tsx, Tsy, Abx, Aby, Mul, Xgdx, Xgdy}
+use Rattle.opcodes.specs.declared.instruction.Inherent.the-variants.{Nop, Idiv, Fdiv, Lsrd, Asld, Tap, Tpa, Inx, Dex}
+use Rattle.opcodes.specs.declared.instruction.Inherent.the-variants.{Iny, Dey, Clv, Sev, Clc, Sec, Cli, Sei, Sba, Cba}
+use Rattle.opcodes.specs.declared.instruction.Inherent.the-variants.{Tab, Tba, Daa, Aba, Tsx, Tsy, Abx, Aby, Mul, Xgdx}
+use Rattle.opcodes.specs.declared.instruction.Inherent.the-variants.{Xgdy}
 use Rattle.arithmetic.specs.Codes.{withZ, withC, withV}
 use Rattle.arithmetic.specs.Byte.{add8Of, sub8Of, logic8Of}
 use Rattle.arithmetic.specs.Word.{asldOf, lsrdOf, mulOf}
@@ -42,7 +45,8 @@ abbrev pub withCarry : ℕ → Bool → ℕ
 withCarry f c = byteOf (withC (flagsOf f) c)
 
 abbrev pub withI : ℕ → Bool → ℕ
-withI f i = let g = flagsOf f in byteOf (record { s = g .s; x = g .x; h = g .h; i = i; n = g .n; z = g .z; v = g .v; c = g .c })
+withI f i =
+    let g = flagsOf f in byteOf (record { s = g .s; x = g .x; h = g .h; i = i; n = g .n; z = g .z; v = g .v; c = g .c })
 
 -- new condition codes where the old ones are f: X is never raised from 0 to 1 (TAP, RTI)
 unfoldable pub replaced : ℕ → ℕ → ℕ

@@ -1,4 +1,5 @@
--- SWI and RTI: the nine bytes of the registers on the stack, PC's low byte highest, the condition codes lowest (the manual's SWI and RTI entries).
+-- SWI and RTI: the nine bytes of the registers on the stack, PC's low byte highest, the condition codes lowest (the
+-- manual's SWI and RTI entries).
 -- Assumes nothing.
 use Prim.Native.Nat.{ℕ}
 use mathlib.Core.Bool.{true}
@@ -11,7 +12,8 @@ use Rattle.instructions.specs.Inherent.{withI, replaced}
 unfoldable pub stackedOf : Registers → List Store
 stackedOf r =
     pushStores (r .sp) (r .pc) ++ pushStores (wrappingSub (r .sp) 2) (r .y) ++ pushStores (wrappingSub (r .sp) 4) (r .x)
-    ++ store (wrappingSub (r .sp) 6) (r .a) ∷ store (wrappingSub (r .sp) 7) (r .b) ∷ store (wrappingSub (r .sp) 8) (r .flags) ∷ []
+    ++ store (wrappingSub (r .sp) 6) (r .a) ∷ store (wrappingSub (r .sp) 7) (r .b) ∷
+    store (wrappingSub (r .sp) 8) (r .flags) ∷ []
 
 -- the vector is read after the stores. The flags that are stacked are those before I is set
 unfoldable pub interruptedOf : Registers → List ℕ → Registers

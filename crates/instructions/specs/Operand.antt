@@ -1,4 +1,5 @@
--- What an instruction reads: its operand, or the bytes that it pulls. The two are kept apart, and no byte is read that the manual's entry does not read.
+-- What an instruction reads: its operand, or the bytes that it pulls. The two are kept apart, and no byte is read that
+-- the manual's entry does not read.
 -- Assumes nothing.
 use Prim.Native.Nat.{ℕ, _%_}
 use mathlib.Core.List.{List}

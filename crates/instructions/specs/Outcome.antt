@@ -1,5 +1,5 @@
--- What an instruction computes, over values alone: the registers but for PC and SP, the number that it stores, pushes or moves to SP,
--- and whether it branches. Each action's stands in its entry (`Entry.antt`).
+-- What an instruction computes, over values alone: the registers but for PC and SP, the number that it stores, pushes
+-- or moves to SP, and whether it branches. Each action's stands in its entry (`Entry.antt`).
 -- Assumes nothing.
 use Prim.Native.Nat.{ℕ}
 use mathlib.Core.Bool.{Bool, false}

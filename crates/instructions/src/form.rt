@@ -1,4 +1,5 @@
-// The form of an instruction: all that it does to PC, SP and memory, apart from the values; and the form of a decoded one.
+// The form of an instruction: all that it does to PC, SP and memory, apart from the values; and the form of a decoded
+// one.
 ghost use mathlib.Core.Path.{_≡_};
 ghost use Rattle.instructions.specs.Form.{addressIn, targetIn, branchForm, loadForm};
 ghost use Rattle.instructions.specs.Entry.{formOf};

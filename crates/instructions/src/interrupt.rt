@@ -18,7 +18,8 @@ use registers::word::wrapping_sub;
 // PC, Y and X: the first six of the nine bytes.
 fn stack_words(r: Registers, mem: &mut [u8])
     requires { ⌜ length (now mem) ≡ 65536 ⌝ }
-    ensures { λ _. ⌜ (now (mem .exit) ≡ withPushed (withPushed (withPushed (now (mem .entry)) (r .sp) (r .pc)) (wrappingSub (r .sp) 2) (r .y)) (wrappingSub (r .sp) 4) (r .x)) × (length (now (mem .exit)) ≡ 65536) ⌝ }
+    ensures { λ _. ⌜ (now (mem .exit) ≡ withPushed (withPushed (withPushed (now (mem .entry)) (r .sp) (r .pc))
+        (wrappingSub (r .sp) 2) (r .y)) (wrappingSub (r .sp) 4) (r .x)) × (length (now (mem .exit)) ≡ 65536) ⌝ }
 {
     push_word(mem, r.sp, r.pc);
     push_word(mem, wrapping_sub(r.sp, 2), r.y);
@@ -27,7 +28,8 @@ fn stack_words(r: Registers, mem: &mut [u8])
 
 fn stack_all(r: Registers, mem: &mut [u8])
     requires { ⌜ length (now mem) ≡ 65536 ⌝ }
-    ensures { λ _. ⌜ (now (mem .exit) ≡ applied (stackedOf r) (now (mem .entry))) × (length (now (mem .exit)) ≡ 65536) ⌝ }
+    ensures { λ _. ⌜ (now (mem .exit) ≡ applied (stackedOf r) (now (mem .entry)))
+        × (length (now (mem .exit)) ≡ 65536) ⌝ }
 {
     stack_words(r, mem);
     put_byte(mem, wrapping_sub(r.sp, 6), r.a);
@@ -38,7 +40,8 @@ fn stack_all(r: Registers, mem: &mut [u8])
 // SWI.
 pub fn interrupt(r: Registers, mem: &mut [u8]) -> Registers
     requires { ⌜ length (now mem) ≡ 65536 ⌝ }
-    ensures { λ q. ⌜ (q ≡ interruptedOf r (now (mem .entry))) × (now (mem .exit) ≡ applied (stackedOf r) (now (mem .entry))) ⌝ }
+    ensures { λ q. ⌜ (q ≡ interruptedOf r (now (mem .entry)))
+        × (now (mem .exit) ≡ applied (stackedOf r) (now (mem .entry))) ⌝ }
 {
     stack_all(r, mem);
     Registers {

@@ -1,5 +1,5 @@
-// An inner crate: what the instructions of each kind read, compute and write, and their form. Its functions are proved for
-// every case of their kind.
+// An inner crate: what the instructions of each kind read, compute and write, and their form. Its functions are proved
+// for every case of their kind.
 pub mod form; // what an instruction does to PC, SP and memory
 pub mod operand; // where an operand stands
 mod named; // the registers by name

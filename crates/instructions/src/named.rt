@@ -1,7 +1,8 @@
 // The registers by name: what an action has as its data.
 ghost use mathlib.Core.Path.{_≡_};
 ghost use Rattle.registers.specs.Registers.{dataOf, withData};
-ghost use Rattle.instructions.specs.Named.{accumulatorOf, withAccumulator, indexRegisterOf, withIndex, wordRegisterOf, toWord};
+ghost use Rattle.instructions.specs.Named.{accumulatorOf, withAccumulator, indexRegisterOf, withIndex};
+ghost use Rattle.instructions.specs.Named.{wordRegisterOf, toWord};
 use opcodes::instruction::Accumulator;
 use opcodes::instruction::Index;
 use opcodes::instruction::Word;

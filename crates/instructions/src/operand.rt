@@ -19,7 +19,8 @@ fn indexed(index: u16, from: u16, mem: &[u8]) -> u16
     wrapping_add(index, byte_at(mem, from) as u16)
 }
 
-// The address of an operand of mode k, whose bytes start at `from`; PC stands past the instruction. An immediate operand stands there itself.
+// The address of an operand of mode k, whose bytes start at `from`; PC stands past the instruction. An immediate
+// operand stands there itself.
 pub fn address(k: u8, from: u16, r: Registers, mem: &[u8]) -> u16
     requires { ⌜ length (now mem) ≡ 65536 ⌝ }
     ensures { λ q. ⌜ q ≡ addressAt (modeOf k) from r (now (mem .entry)) ⌝ }

@@ -44,7 +44,8 @@ pub fn store_word(w: Word, at: u16, r: Registers, mem: &mut [u8]) -> Registers
 // A byte made for memory goes to an address, and its condition codes to the flags.
 fn put_result(b: ByteResult, at: u16, r: Registers, mem: &mut [u8]) -> Registers
     requires { ⌜ length (now mem) ≡ 65536 ⌝ }
-    ensures { λ q. ⌜ (q ≡ withData r (withFlags (dataOf r) (b .flags))) × (now (mem .exit) ≡ withByte (now (mem .entry)) at (b .value)) ⌝ }
+    ensures { λ q. ⌜ (q ≡ withData r (withFlags (dataOf r) (b .flags)))
+        × (now (mem .exit) ≡ withByte (now (mem .entry)) at (b .value)) ⌝ }
 {
     put_byte(mem, at, b.value);
     r.with_flags(b.flags)

@@ -10,17 +10,26 @@ use lib.Seq.{take-at, drop-at, drop-drop, length-take-le, paste}
 use Rattle.lists.specs.inner.Splice.{spliced}
 
 -- a copy of the first n bytes, if these are a
-pub paste-spliced : (old : List ℕ) (at : ℕ) (a b : List ℕ) (n : ℕ) → length a ≡ n → paste old at (a ++ b) n ≡ spliced old at a
+pub paste-spliced : (old : List ℕ) (at : ℕ) (a b : List ℕ) (n : ℕ) → length a ≡ n →
+    paste old at (a ++ b) n ≡ spliced old at a
 unfolding spliced
 paste-spliced old at a b n e = rw (take-at a b n e, append-assoc, e)
 
-spliced-next : (old : List ℕ) (at : ℕ) (a b : List ℕ) (n : ℕ) → n ≡ at + length a → n + length b ≤ length old → spliced (spliced old at a) n b ≡ spliced old at (a ++ b)
+spliced-next : (old : List ℕ) (at : ℕ) (a b : List ℕ) (n : ℕ) → n ≡ at + length a → n + length b ≤ length old →
+    spliced (spliced old at a) n b ≡ spliced old at (a ++ b)
 unfolding spliced
 spliced-next old at a b n s room =
     let p = take at old ++ a in
     let q = drop n old in
     let e : length p ≡ n = simp (length-append, length-take-le at old (omega arith)) (omega arith) in
-    rw (← s, ← append-assoc (take at old) a q, take-at p q n e, ← drop-drop (length b) n (p ++ q), drop-at p q n e, drop-drop)
+    rw (
+      ← s,
+      ← append-assoc (take at old) a q,
+      take-at p q n e,
+      ← drop-drop (length b) n (p ++ q),
+      drop-at p q n e,
+      drop-drop,
+    )
     (simp (append-assoc, length-append, ← add-assoc, ← s))
 
 -- the output and the offset after some bytes are put at an offset of the old output

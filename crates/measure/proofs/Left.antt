@@ -20,6 +20,7 @@ module _ (l : Look) (m : List ℕ) where
   look-over zero h = refl
   look-over (suc n) h = rw h
 
-  pub look-next : (n : ℕ) → l .over ≡ false → (q : Look) (m′ : List ℕ) → lookStep q m′ ≡ lookStepOf l m → lookFrom (suc n) l m ≡ lookFrom n q m′
+  pub look-next : (n : ℕ) → l .over ≡ false → (q : Look) (m′ : List ℕ) → lookStep q m′ ≡ lookStepOf l m →
+      lookFrom (suc n) l m ≡ lookFrom n q m′
   unfolding lookFrom
   look-next n h q m′ e = other (l .over) l _ h ∙ ap (λ (t : LookStep). lookFrom n (t .look) (t .memory)) (sym e)

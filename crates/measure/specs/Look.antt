@@ -1,4 +1,5 @@
--- What a mark claims, measured along a run: the cycles and the stack bytes that a routine takes from an instruction to its own return (document 01, "The ticket": cost, depth, need).
+-- What a mark claims, measured along a run: the cycles and the stack bytes that a routine takes from an instruction to
+-- its own return (document 01, "The ticket": cost, depth, need).
 -- Assumes nothing.
 use Prim.Native.Nat.{ℕ, zero, suc, _+_, _-_}
 use mathlib.Core.Bool.{Bool, true, false, cond}
@@ -36,7 +37,14 @@ ends plain n = false
 
 -- an instruction of this flow led to the registers q in k cycles
 abbrev pub onOf : Flow → Look → Registers → ℕ → Look
-onOf d l q k = record { regs = q; lowest = lowerOf (l .lowest) (q .sp); pending = pendingAfter d (l .pending); left = l .left - k; over = ends d (l .pending) }
+onOf d l q k =
+    record {
+      regs = q;
+      lowest = lowerOf (l .lowest) (q .sp);
+      pending = pendingAfter d (l .pending);
+      left = l .left - k;
+      over = ends d (l .pending);
+    }
 
 -- one that the budget does not cover, or that is refused, ends the look
 abbrev pub lookAfter : Flow → Look → Answer → Look
@@ -62,8 +70,15 @@ lookFrom (suc n) l m = cond (l .over) l (let t = lookStepOf l m in lookFrom n (t
 abbrev pub lookOf : Registers → List ℕ → ℕ → Look
 lookOf r m b = lookFrom b (beginOf r b) m
 
--- from the registers r and the memory m: the cycles until the return; the bytes pushed before, which the return finds below its address; the bytes taken below SP
+-- from the registers r and the memory m: the cycles until the return; the bytes pushed before, which the return finds
+-- below its address; the bytes taken below SP
 abbrev pub measuredOf : Registers → List ℕ → ℕ → Claim
 measuredOf r m b =
     let l = lookOf r m b in
-    record { cost = record { 0 = b - l .left }; depth = record { 0 = wrappingSub (wrappingSub (l .regs .sp) 2) (r .sp) }; need = record { 0 = wrappingSub (r .sp) (l .lowest) } }
+    record {
+      cost = record { 0 = b - l .left };
+      depth = record
+          { 0 = wrappingSub (wrappingSub (l .regs .sp) 2) (r .sp) };
+      need =
+          record { 0 = wrappingSub (r .sp) (l .lowest) };
+    }

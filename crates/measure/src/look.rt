@@ -2,7 +2,8 @@
 ghost use mathlib.Core.Path.{_≡_};
 ghost use Prim.Native.Nat.{_+_, _≤_, _<_};
 ghost use lib.ListN.{length};
-ghost use Rattle.measure.specs.Look.{beginOf, overOf, lowerOf, pendingAfter, ends, lookAfter, lookStep, lookStepOf, lookOf, measuredOf};
+ghost use Rattle.measure.specs.Look.{beginOf, overOf, lowerOf, pendingAfter, ends, lookAfter, lookStep};
+ghost use Rattle.measure.specs.Look.{lookStepOf, lookOf, measuredOf};
 ghost use Rattle.measure.specs.inner.Said.{flowSaid};
 ghost use Rattle.stepper.specs.Answer.{done};
 use crate::flow::Flow;
@@ -15,7 +16,8 @@ use registers::word::wrapping_sub;
 use stepper::answer::Stepped;
 use stepper::step;
 
-// The registers reached, the lowest SP so far, how many calls have not returned, what is left of the budget, and whether the look has ended.
+// The registers reached, the lowest SP so far, how many calls have not returned, what is left of the budget, and
+// whether the look has ended.
 pub struct Look {
     pub regs: Registers,
     pub lowest: u16,
@@ -97,7 +99,8 @@ fn look_after(d: Flow, l: Look, q: Registers, k: Cycles) -> Look
 // The next instruction.
 fn look_step(l: Look, mem: &mut [u8]) -> Look
     requires { ⌜ (length (now mem) ≡ 65536) × (l .pending + 1 < 4294967296) ⌝ }
-    ensures { λ r. ⌜ (lookStep r (now (mem .exit)) ≡ lookStepOf l (now (mem .entry))) × (length (now (mem .exit)) ≡ 65536) × (r .pending ≤ l .pending + 1) × (r .left ≤ l .left) ⌝ }
+    ensures { λ r. ⌜ (lookStep r (now (mem .exit)) ≡ lookStepOf l (now (mem .entry)))
+        × (length (now (mem .exit)) ≡ 65536) × (r .pending ≤ l .pending + 1) × (r .left ≤ l .left) ⌝ }
 {
     let regs = l.regs;
     let d = flow_at(mem, regs.pc);

@@ -1,4 +1,5 @@
--- A memory is the list of its 65,536 bytes; every address sum wraps (document 01, "The machine"). What an instruction writes is a list of stores.
+-- A memory is the list of its 65,536 bytes; every address sum wraps (document 01, "The machine"). What an instruction
+-- writes is a list of stores.
 -- Assumes nothing.
 use Prim.Native.Nat.{ℕ, _+_, _*_, _/_, _%_}
 use mathlib.Core.List.{List, [], _∷_}

@@ -1,4 +1,5 @@
--- On 11 register bytes a call says what the stepper says, of a memory of another length too: the monitor adds no rule of its own.
+-- On 11 register bytes a call says what the stepper says, of a memory of another length too: the monitor adds no rule
+-- of its own.
 -- Assumes nothing.
 use mathlib.Core.Path.{_≡_, refl}
 use mathlib.Core.Bool.{Bool, true, false}

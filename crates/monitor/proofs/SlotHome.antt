@@ -19,7 +19,8 @@ use Rattle.verdict.proofs.Home.{admitted-comes-home}
 use Rattle.verdict.proofs.StartNumbered.{admission-numbered}
 use Rattle.monitor.specs.RegisterBytes.{packed, unpacked}
 use Rattle.monitor.specs.Slot.{slotOf}
-use Rattle.monitor.specs.RoutineCalls.{startCall, CertifyCall, certifyCall, ofAdmission, certifyBytesOf, startSlotOf}
+use Rattle.monitor.specs.RoutineCalls.{startCall, CertifyCall, certifyCall, ofAdmission, certifyBytesOf}
+use Rattle.monitor.specs.RoutineCalls.{startSlotOf}
 use Rattle.monitor.specs.Home.{SlotComesHome, FilledSlotComesHome, StartsFromFilledSlot}
 use Rattle.monitor.proofs.SlotRoundTrip.{slot-length, header-in-slot, certificate-in-slot}
 use Rattle.monitor.proofs.BytesHome.{packed-come-home}
@@ -46,7 +47,8 @@ module _ (ticket image : List ℕ) (bytes : AllBytes ticket) where
     home-of (Refused r) e z = absurd (omega (arith, z, admission-numbered ticket image r e))
 
     -- by whether there are 24 slot bytes
-    home-sized : (sized : Bool) → Home (cond sized (ofAdmission (admittedOf ticket image) p slot) (certifyCall 21 0 slot))
+    home-sized : (sized : Bool) → Home (cond sized (ofAdmission (admittedOf ticket image) p slot)
+        (certifyCall 21 0 slot))
     home-sized true z = home-of (admittedOf ticket image) refl z
     home-sized false z = absurd (omega (arith, z))
 

@@ -13,4 +13,12 @@ packed r =
 
 unfoldable pub unpacked : List ℕ → Registers
 unpacked bs =
-    record { x = wordIn bs 2; y = wordIn bs 4; sp = wordIn bs 6; pc = wordIn bs 8; a = getD bs 0 0; b = getD bs 1 0; flags = getD bs 10 0 }
+    record {
+      x = wordIn bs 2;
+      y = wordIn bs 4;
+      sp = wordIn bs 6;
+      pc = wordIn bs 8;
+      a = getD bs 0 0;
+      b = getD bs 1 0;
+      flags = getD bs 10 0;
+    }

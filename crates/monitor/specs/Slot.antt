@@ -32,4 +32,5 @@ headerIn bs =
     }
 
 unfoldable pub certificateIn : List ℕ → Certificate
-certificateIn bs = record { header = headerIn bs; cost = record { 0 = longIn bs 18 }; stack = record { 0 = wordIn bs 22 } }
+certificateIn bs =
+    record { header = headerIn bs; cost = record { 0 = longIn bs 18 }; stack = record { 0 = wordIn bs 22 } }

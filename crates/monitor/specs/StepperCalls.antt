@@ -1,4 +1,5 @@
--- What a C call comes to: its outcome number, what it answers beside it, and the lent bytes afterwards, all by the stepper's own definitions (document 01, "The machine": the press monitor is written in C).
+-- What a C call comes to: its outcome number, what it answers beside it, and the lent bytes afterwards, all by the
+-- stepper's own definitions (document 01, "The machine": the press monitor is written in C).
 -- Assumes nothing.
 use Prim.Native.Nat.{ℕ}
 use mathlib.Core.Bool.{Bool, cond, _&&_}
@@ -56,4 +57,5 @@ pub record ResetCall : Type 0 where
 
 unfoldable pub resetBytesOf : List ℕ → ResetCall
 resetBytesOf rs =
-    cond (eqb (length rs) 11) (record { outcome = 0; registers = packed resetOf }) (record { outcome = 21; registers = rs })
+    cond (eqb (length rs) 11) (record { outcome = 0; registers = packed resetOf })
+    (record { outcome = 21; registers = rs })

@@ -4,7 +4,8 @@ ghost use mathlib.Core.Path.{_≡_};
 ghost use Rattle.rules.specs.Checks.{verdictOf};
 ghost use Rattle.verdict.specs.Promise.{Promised};
 ghost use Rattle.monitor.specs.StepperCalls.{stepperCall, resetBytesOf, stepBytesOf, runBytesOf};
-ghost use Rattle.monitor.specs.RoutineCalls.{verdictCall, ofVerdict, startCall, startBytesOf, certifyCall, certifyBytesOf, startSlotOf};
+ghost use Rattle.monitor.specs.RoutineCalls.{verdictCall, ofVerdict, startCall, startBytesOf, certifyCall};
+ghost use Rattle.monitor.specs.RoutineCalls.{certifyBytesOf, startSlotOf};
 ghost use Rattle.monitor.specs.Home.{StartedBytesComeHome, FilledSlotComesHome, StartsFromFilledSlot};
 use crate::register_bytes::pack;
 use answers::Verdict;
@@ -19,7 +20,8 @@ mod slot; // a routine judged into a slot, and started from it
 
 #[no_mangle]
 pub extern "C" fn jugrond_reset(regs: &mut [u8]) -> u32
-    ensures { λ q. ⌜ (q ≡ resetBytesOf (now (regs .entry)) .outcome) × (now (regs .exit) ≡ resetBytesOf (now (regs .entry)) .registers) ⌝ }
+    ensures { λ q. ⌜ (q ≡ resetBytesOf (now (regs .entry)) .outcome)
+        × (now (regs .exit) ≡ resetBytesOf (now (regs .entry)) .registers) ⌝ }
 {
     if regs.len() != 11 {
         return stepper_calls::BAD_LENGTH;

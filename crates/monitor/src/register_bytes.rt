@@ -1,5 +1,5 @@
-// The registers as the 11 bytes that the monitor lends: A, B, X, Y, SP, PC, flags. An inner module of the C calls: where
-// a length is required, they have tested it.
+// The registers as the 11 bytes that the monitor lends: A, B, X, Y, SP, PC, flags. An inner module of the C calls:
+// where a length is required, they have tested it.
 ghost use mathlib.Core.Path.{_≡_};
 ghost use lib.ListN.{length};
 ghost use Rattle.monitor.specs.RegisterBytes.{packed, unpacked};

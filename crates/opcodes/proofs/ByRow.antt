@@ -1,4 +1,5 @@
--- A rule over two tables that are made of the rows: it holds at every number if it holds of each row, and where no row is.
+-- A rule over two tables that are made of the rows: it holds at every number if it holds of each row, and where no row
+-- is.
 -- Assumes nothing.
 use mathlib.Core.Path.{_≡_, refl, subst}
 use mathlib.Core.Bool.{Bool, true, false, _&&_}
@@ -37,7 +38,8 @@ module _ {A B : Type 0} (f : Row → A) (g : Row → B) (ok : ℕ → A → B �
 
     from : (s n : ℕ) (rs : List Row) → T (all rs) → (k : ℕ) → Ok s k (expand f a s n rs) (expand g b s n rs)
     from s zero rs t k = none (s + k)
-    from s (suc n) [] t k = first s a b (expand f a (suc s) n []) (expand g b (suc s) n []) (none s) (from (suc s) n [] t) k
+    from s (suc n) [] t k =
+        first s a b (expand f a (suc s) n []) (expand g b (suc s) n []) (none s) (from (suc s) n [] t) k
     from s (suc n) (r ∷ rs) t k =
         let u = both-left (ok (r .place) (f r) (g r)) (all rs) t in
         let us = both-right (ok (r .place) (f r) (g r)) (all rs) t in
@@ -46,5 +48,8 @@ module _ {A B : Type 0} (f : Row → A) (g : Row → B) (ok : ℕ → A → B �
         (λ e. subst (λ (i : ℕ). T (ok i (f r) (g r))) (eqb-true (r .place) s e) u)
         (from (suc s) n rs us) (from (suc s) n (r ∷ rs) t) k
 
-    pub by-row : (n : ℕ) (rs : List Row) → T (all rs) → (p : ℕ) → T (ok p (getD (expand f a 0 n rs) p a) (getD (expand g b 0 n rs) p b))
-    by-row n rs t p = subst (λ (i : ℕ). T (ok i (getD (expand f a 0 n rs) p a) (getD (expand g b 0 n rs) p b))) (omega arith) (from 0 n rs t p)
+    pub by-row : (n : ℕ) (rs : List Row) → T (all rs) → (p : ℕ) →
+        T (ok p (getD (expand f a 0 n rs) p a) (getD (expand g b 0 n rs) p b))
+    by-row n rs t p =
+        subst (λ (i : ℕ). T (ok i (getD (expand f a 0 n rs) p a) (getD (expand g b 0 n rs) p b))) (omega arith)
+        (from 0 n rs t p)

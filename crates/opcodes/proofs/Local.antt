@@ -9,7 +9,8 @@ use borrow.Author.Tests.{eqb-true, eqb-false}
 use Rattle.opcodes.specs.declared.instruction.Mode.{Mode}
 use Rattle.opcodes.specs.declared.instruction.Mode.the-variants as Mode
 use Rattle.opcodes.specs.Tables.{costAt, lengthAt, modeAt}
-use Rattle.opcodes.specs.Decode.{Bytes, pageOf, opcodeSize, operandSize, operandOf, instructionOf, placeIn, decodeAt, decodeOf}
+use Rattle.opcodes.specs.Decode.{Bytes, pageOf, opcodeSize, operandSize, operandOf, instructionOf, placeIn}
+use Rattle.opcodes.specs.Decode.{decodeAt, decodeOf}
 use Rattle.opcodes.proofs.Size.{sized}
 use Rattle.opcodes.proofs.Prefix.{size-some, in-first, paged}
 
@@ -33,7 +34,8 @@ module _ (u v w x y z : ℕ) where
   operand-local Mode.MaskBranchX a b c = rw (a (omega arith), b (omega arith), c (omega arith))
   operand-local Mode.MaskBranchY a b c = rw (a (omega arith), b (omega arith), c (omega arith))
 
-module _ (f g : Bytes) (there : costAt (placeIn f) ≡ 0 → ⊥) (same : (i : ℕ) → i < lengthAt (placeIn f) → f i ≡ g i) where
+module _ (f g : Bytes) (there : costAt (placeIn f) ≡ 0 → ⊥) (same : (i : ℕ) → i < lengthAt (placeIn f) →
+    f i ≡ g i) where
   instruction-local : decodeAt (placeIn f) g ≡ decodeAt (placeIn f) f
   unfolding decodeAt instructionOf
   instruction-local =

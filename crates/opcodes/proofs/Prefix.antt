@@ -1,4 +1,5 @@
--- The bytes that lead to another map have no instruction in the first one, so that the first map may be looked at first.
+-- The bytes that lead to another map have no instruction in the first one, so that the first map may be looked at
+-- first.
 -- Assumes nothing.
 use mathlib.Core.Path.{_≡_, refl, sym, ap, _∙_}
 use mathlib.Core.Bool.{Bool, true, false, cond}
@@ -21,7 +22,8 @@ module _ (op : ℕ) (h : costAt op ≡ 0 → ⊥) where
   never : (k : ℕ) → costAt k ≡ 0 → eqb op k ≡ true → ⊥
   never k z e = h (ap (λ (x : ℕ). costAt x) (eqb-true op k e) ∙ z)
 
-  pages : (a b c : Bool) → eqb op 0x18 ≡ a → eqb op 0x1a ≡ b → eqb op 0xcd ≡ c → _≡_ {A = ℕ} (cond a 256 (cond b 512 (cond c 768 0))) 0
+  pages : (a b c : Bool) → eqb op 0x18 ≡ a → eqb op 0x1a ≡ b → eqb op 0xcd ≡ c →
+      _≡_ {A = ℕ} (cond a 256 (cond b 512 (cond c 768 0))) 0
   pages true b c p q r = absurd (never 0x18 (prefixes-empty .0) p)
   pages false true c p q r = absurd (never 0x1a (prefixes-empty .1) q)
   pages false false true p q r = absurd (never 0xcd (prefixes-empty .2) r)
@@ -32,7 +34,8 @@ module _ (op : ℕ) (h : costAt op ≡ 0 → ⊥) where
   unfolding pageOf
   plain = pages (eqb op 0x18) (eqb op 0x1a) (eqb op 0xcd) refl refl refl
 
-some : (a b c : Bool) → (_≡_ {A = ℕ} (cond a 256 (cond b 512 (cond c 768 0))) 0 → ⊥) → 256 ≤ cond a 256 (cond b 512 (cond c 768 0))
+some : (a b c : Bool) → (_≡_ {A = ℕ} (cond a 256 (cond b 512 (cond c 768 0))) 0 → ⊥) →
+    256 ≤ cond a 256 (cond b 512 (cond c 768 0))
 some true b c n = omega arith
 some false true c n = omega arith
 some false false true n = omega arith
@@ -73,7 +76,8 @@ module _ (first second : ℕ) where
   in-other n = simp (ne-eqb _ _ n)
 
   -- after a prefix the opcode has two bytes
-  pub paged : (g : ℕ) → g ≡ pageOf first → (g ≡ 0 → ⊥) → (opcodePlace first second ≡ g + second) × (opcodeSize (g + second) ≡ 2)
+  pub paged : (g : ℕ) → g ≡ pageOf first → (g ≡ 0 → ⊥) → (opcodePlace first second ≡ g + second)
+      × (opcodeSize (g + second) ≡ 2)
   paged g e n =
       let far : pageOf first ≡ 0 → ⊥ = λ z. n (e ∙ z) in
       (in-other far ∙ ap (λ (k : ℕ). k + second) (sym e), size-2 (g + second) (omega (arith, a-page first far)))

@@ -1,4 +1,5 @@
--- Document 01's rule of the table: an entry is 0, or has a length of 1 to 5 and 2 to 41 cycles. One test over the 1,024 places.
+-- Document 01's rule of the table: an entry is 0, or has a length of 1 to 5 and 2 to 41 cycles. One test over the 1,024
+-- places.
 -- Assumes nothing.
 use mathlib.Core.Path.{_≡_, refl}
 use mathlib.Core.Bool.{Bool, true, _&&_}

@@ -1,4 +1,5 @@
--- What is found says the place, the size of the opcode and the entry; and where the table has 0 there is no instruction.
+-- What is found says the place, the size of the opcode and the entry; and where the table has 0 there is no
+-- instruction.
 -- Assumes nothing.
 use mathlib.Core.Path.{_≡_, refl, sym, ap, _∙_}
 use mathlib.Core.Bool.{Bool, true, false, cond}

@@ -1,4 +1,5 @@
--- The sixteen tests of opcodes $20 to $2F, each as its truth over N, Z, V and C (document 01; the manual's branch entries).
+-- The sixteen tests of opcodes $20 to $2F, each as its truth over N, Z, V and C (document 01; the manual's branch
+-- entries).
 -- Assumes nothing.
 use Prim.Native.Nat.{ℕ, zero, suc, _+_, _*_, _%_, _^_}
 use mathlib.Core.Bool.{Bool, true, false, not, _||_}

@@ -1,4 +1,5 @@
--- What stands at an address, by the bytes from there on: an opcode of one byte, or $18, $1A or $CD and a second byte; then the operand (document 01).
+-- What stands at an address, by the bytes from there on: an opcode of one byte, or $18, $1A or $CD and a second byte;
+-- then the operand (document 01).
 -- Assumes nothing.
 use Prim.Native.Nat.{ℕ, _+_, _*_}
 use mathlib.Core.Bool.{cond}

@@ -1,11 +1,17 @@
--- The documented instructions, a row each: the place (256 for each opcode map, then the opcode), the action, the mode, the length and the cycles.
--- From the manual's cycle-by-cycle tables, misprints mended (docs/DECISIONS.md). Maps: 0 no prefix, 1 after $18, 2 after $1A, 3 after $CD.
--- TEST and WAI, which have no fixed count, stand with 2 and 14 (document 01).
+-- The documented instructions, a row each: the place (256 for each opcode map, then the opcode), the action, the mode,
+-- the length and the cycles. From the manual's cycle-by-cycle tables, misprints mended (docs/DECISIONS.md). Maps: 0 no
+-- prefix, 1 after $18, 2 after $1A, 3 after $CD. TEST and WAI, which have no fixed count, stand with 2 and 14 (document
+-- 01).
 -- Assumes nothing.
 use Prim.Native.Nat.{ℕ}
 use mathlib.Core.List.{List, [], _∷_}
 use Rattle.opcodes.specs.declared.instruction.Action.{Action}
-use Rattle.opcodes.specs.declared.instruction.Action.the-variants.{Inherent, Unary, Binary, TstAccumulator, TstMemory, LoadWord, Addd, Subd, CompareWord, StoreByte, StoreWord, Modify, Bset, Bclr, Brset, Brclr, Branch, Jmp, Call, Rts, PushByte, PushWord, PullByte, PullWord, Des, Ins, SetStack, Swi, Rti, Wai, Stop, Test}
+use Rattle.opcodes.specs.declared.instruction.Action.the-variants.{Inherent, Unary, Binary, TstAccumulator}
+use Rattle.opcodes.specs.declared.instruction.Action.the-variants.{TstMemory, LoadWord, Addd, Subd, CompareWord}
+use Rattle.opcodes.specs.declared.instruction.Action.the-variants.{StoreByte, StoreWord, Modify, Bset, Bclr}
+use Rattle.opcodes.specs.declared.instruction.Action.the-variants.{Brset, Brclr, Branch, Jmp, Call, Rts, PushByte}
+use Rattle.opcodes.specs.declared.instruction.Action.the-variants.{PushWord, PullByte, PullWord, Des, Ins}
+use Rattle.opcodes.specs.declared.instruction.Action.the-variants.{SetStack, Swi, Rti, Wai, Stop, Test}
 use Rattle.opcodes.specs.declared.instruction.Inherent.the-variants as I
 use Rattle.opcodes.specs.declared.instruction.Unary.the-variants as Un
 use Rattle.opcodes.specs.declared.instruction.Binary.the-variants as Bi

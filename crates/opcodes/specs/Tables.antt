@@ -12,7 +12,8 @@ use Rattle.opcodes.specs.declared.instruction.Mode.{Mode}
 use Rattle.opcodes.specs.declared.instruction.Mode.the-variants as Mode
 use Rattle.opcodes.specs.Rows.{Row, rows}
 
--- what f has of the row of each of n places from `at` on, and d where no row is. The rows stand in rising order of their places
+-- what f has of the row of each of n places from `at` on, and d where no row is. The rows stand in rising order of
+-- their places
 abbrev pub expand : {A : Type 0} → (Row → A) → A → ℕ → ℕ → List Row → List A
 expand f d at zero rs = []
 expand f d at (suc n) [] = d ∷ expand f d (suc at) n []

@@ -1,5 +1,5 @@
-// The decoded instruction: document 01's action with an operand. Actions are grouped by what they read and write, so that a rule
-// over all of them is short; a mnemonic of the manual is one case with its data.
+// The decoded instruction: document 01's action with an operand. Actions are grouped by what they read and write, so
+// that a rule over all of them is short; a mnemonic of the manual is one case with its data.
 
 pub enum Accumulator {
     A,

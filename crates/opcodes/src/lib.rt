@@ -1,4 +1,5 @@
-// An inner crate: the decoded instruction, the opcode tables, the sixteen tests, the places of the tables and the decoder.
+// An inner crate: the decoded instruction, the opcode tables, the sixteen tests, the places of the tables and the
+// decoder.
 pub mod instruction; // an action with an operand
 pub mod table; // length, cycles, action and mode of each place
 pub mod condition; // the sixteen tests

@@ -1,5 +1,6 @@
-// The action and the mode that a number of the tables stands for. The actions go by the groups of specs/inner/Numbers.antt:
-// one match of all of them takes far longer to prove. tools/opcode_tables.py writes an arm's number, by the name behind it.
+// The action and the mode that a number of the tables stands for. The actions go by the groups of
+// specs/inner/Numbers.antt: one match of all of them takes far longer to prove. tools/opcode_tables.py writes an arm's
+// number, by the name behind it.
 ghost use mathlib.Core.Path.{_≡_};
 ghost use Prim.Native.Nat.{_≤_};
 ghost use Rattle.opcodes.specs.inner.Numbers.{actionOf, modeOf};

@@ -1,5 +1,5 @@
-// The checking program: reads press.bin and press.tkt from the folder it is run in and prints the verdict as one line (document 01, "One routine, read
-// aloud").
+// The checking program: reads press.bin and press.tkt from the folder it is run in and prints the verdict as one line
+// (document 01, "One routine, read aloud").
 use files::load;
 use files::unfit;
 use io::write_all;

@@ -36,7 +36,8 @@ module _ (f : Flags) where
       rw (s′, x′, h′, i′, n′, z′, v′, c′)
 
 -- a number is made of its bits
-joined : (n a b c d e f g s x h i m z v o : ℕ) → n ≡ 2 * a + o → a ≡ 2 * b + v → b ≡ 2 * c + z → c ≡ 2 * d + m → d ≡ 2 * e + i → e ≡ 2 * f + h
+joined : (n a b c d e f g s x h i m z v o : ℕ) → n ≡ 2 * a + o → a ≡ 2 * b + v → b ≡ 2 * c + z → c ≡ 2 * d + m →
+    d ≡ 2 * e + i → e ≡ 2 * f + h
     → f ≡ 2 * g + x → g ≡ s → 128 * s + 64 * x + 32 * h + 16 * i + 8 * m + 4 * z + 2 * v + o ≡ n
 joined n a b c d e f g s x h i m z v o p q r t u w y j = omega arith
 
@@ -51,4 +52,5 @@ to-byte n l =
       digit (n / 4 % 2) (omega arith),
       digit (n / 2 % 2) (omega arith),
       digit (n % 2) (omega arith),
-    ) (joined n (n / 2) (n / 4) (n / 8) (n / 16) (n / 32) (n / 64) (n / 128) _ _ _ _ _ _ _ _ (omega arith) (omega arith) (omega arith) (omega arith) (omega arith) (omega arith) (omega arith) (omega arith))
+    ) (joined n (n / 2) (n / 4) (n / 8) (n / 16) (n / 32) (n / 64) (n / 128) _ _ _ _ _ _ _ _ (omega arith) (omega arith)
+    (omega arith) (omega arith) (omega arith) (omega arith) (omega arith) (omega arith))

@@ -11,7 +11,8 @@ resetOf = record { x = 0; y = 0; sp = 0; pc = 0; a = 0; b = 0; flags = 0xd0 }
 
 -- PC at the entry; SP is T - 2, where T is the stack window's last address
 abbrev pub startOf : Data → ℕ → ℕ → Registers
-startOf d entry last = record { x = d .x; y = d .y; sp = wrappingSub last 2; pc = entry; a = d .a; b = d .b; flags = d .flags }
+startOf d entry last =
+    record { x = d .x; y = d .y; sp = wrappingSub last 2; pc = entry; a = d .a; b = d .b; flags = d .flags }
 
 -- the registers but for PC and SP
 abbrev pub dataOf : Registers → Data

@@ -1,6 +1,7 @@
 // An inner crate: the register set, the condition codes, 16-bit register arithmetic, and the two kinds of count.
 ghost use mathlib.Core.Path.{_≡_};
-ghost use Rattle.registers.specs.Registers.{resetOf, startOf, dataOf, accumulatorD, withA, withB, withD, withX, withY, withFlags, withData, withPc, withSp, withPcSp};
+ghost use Rattle.registers.specs.Registers.{resetOf, startOf, dataOf, accumulatorD, withA, withB, withD, withX};
+ghost use Rattle.registers.specs.Registers.{withY, withFlags, withData, withPc, withSp, withPcSp};
 
 pub mod flags; // the condition codes and their byte
 pub mod word; // sums and differences that wrap at 65,536
@@ -48,8 +49,8 @@ impl Registers {
         Registers::RESET
     }
 
-    // Document 01's named start: the data as given, PC at the entry, and SP below the two bytes of home, the last of which
-    // stands at the stack window's last address.
+    // Document 01's named start: the data as given, PC at the entry, and SP below the two bytes of home, the last of
+    // which stands at the stack window's last address.
     pub fn start(d: Data, entry: u16, last: u16) -> Registers
         ensures { λ r. ⌜ r ≡ startOf d entry last ⌝ }
     {

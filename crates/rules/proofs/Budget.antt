@@ -40,19 +40,24 @@ module _ (b s : ℕ) (r : Registers) (m : List ℕ) {q : Registers} {ws : List S
   stands l = uncovered b b s r m away does l
 
 -- a trace that is covered is gone along
-follows : {r e : Registers} {m n : List ℕ} {evs : List Event} (b s : ℕ) → Along r m evs e n → s + total evs ≤ b → runOn b s r m ≡ runOn b (s + total evs) e n
+follows : {r e : Registers} {m n : List ℕ} {evs : List Event} (b s : ℕ) → Along r m evs e n → s + total evs ≤ b →
+    runOn b s r m ≡ runOn b (s + total evs) e n
 follows b s stay l = rw add-zero refl
-follows b s (then {r} {m} {k} away done rest) l = goes-on b s r m away done (omega arith) ∙ follows b (s + k) rest (omega arith) ∙ rw add-assoc refl
+follows b s (then {r} {m} {k} away done rest) l =
+    goes-on b s r m away done (omega arith) ∙ follows b (s + k) rest (omega arith) ∙ rw add-assoc refl
 
-from-start : {r e : Registers} {m n : List ℕ} {evs : List Event} (b : ℕ) → length m ≡ 65536 → Along r m evs e n → total evs ≤ b → runOf r m b ≡ runOn b (total evs) e n
+from-start : {r e : Registers} {m n : List ℕ} {evs : List Event} (b : ℕ) → length m ≡ 65536 → Along r m evs e n →
+    total evs ≤ b → runOf r m b ≡ runOn b (total evs) e n
 from-start {r} {m} {evs} b whole a l = starts r m b whole ∙ follows b 0 a (omega arith) ∙ rw zero-add refl
 
-pub run-home : {r e : Registers} {m n : List ℕ} {evs : List Event} → length m ≡ 65536 → Along r m evs e n → e .pc ≡ 0 → (b : ℕ) → total evs ≤ b
+pub run-home : {r e : Registers} {m n : List ℕ} {evs : List Event} → length m ≡ 65536 → Along r m evs e n → e .pc ≡ 0 →
+    (b : ℕ) → total evs ≤ b
     → runOf r m b ≡ ranHome e n (total evs)
 run-home {e} {n} {evs} whole a h b l = from-start b whole a l ∙ at-home b b (total evs) e n h
 
 -- two traces, one after the other
-joined : {r q e : Registers} {m n o : List ℕ} {evs evs′ : List Event} → Along r m evs q n → Along q n evs′ e o → Along r m (evs ++ evs′) e o
+joined : {r q e : Registers} {m n o : List ℕ} {evs evs′ : List Event} → Along r m evs q n → Along q n evs′ e o →
+    Along r m (evs ++ evs′) e o
 joined stay a′ = a′
 joined (then away done a) a′ = then away done (joined a a′)
 
@@ -62,8 +67,10 @@ total-++ (ev ∷ evs) evs′ = rw (total-++ evs evs′, add-assoc) refl
 
 module _ (r₀ : Registers) (m₀ : List ℕ) (whole : length m₀ ≡ 65536) (b : ℕ) where
   -- where the next instruction is not covered
-  stops-here : (before : List Event) {r q : Registers} {m : List ℕ} {ws : List Store} (ev : Event) (evs : List Event) → Along r₀ m₀ before r m
-      → total before ≤ b → (r .pc ≡ 0 → ⊥) → didOf r m ≡ did q ws (ev .cycles) → b < total before + ev .cycles → Stops r₀ m₀ (before ++ (ev ∷ evs)) b
+  stops-here : (before : List Event) {r q : Registers} {m : List ℕ} {ws : List Store} (ev : Event) (evs : List Event) →
+      Along r₀ m₀ before r m
+      → total before ≤ b → (r .pc ≡ 0 → ⊥) → didOf r m ≡ did q ws (ev .cycles) → b < total before + ev .cycles →
+      Stops r₀ m₀ (before ++ (ev ∷ evs)) b
   stops-here before {r} {m} ev evs a l away done u = record {
     before = before;
     next = ev;
@@ -78,15 +85,18 @@ module _ (r₀ : Registers) (m₀ : List ℕ) (whole : length m₀ ≡ 65536) (b
   }
 
   -- what is done is covered, and all that is left is not
-  stops : (before : List Event) {r e : Registers} {m n : List ℕ} {evs : List Event} → Along r₀ m₀ before r m → total before ≤ b → Along r m evs e n
+  stops : (before : List Event) {r e : Registers} {m n : List ℕ} {evs : List Event} → Along r₀ m₀ before r m →
+      total before ≤ b → Along r m evs e n
       → b < total before + total evs → Stops r₀ m₀ (before ++ evs) b
   stops before a l stay u = absurd (omega arith)
   stops before a l (then {r} {q} {m} {ws} {k} {evs} away done rest) u =
       let ev : Event = record { flow = flowOf m (r .pc); stores = ws; cycles = k; sp = q .sp } in
       let sum : total (before ++ (ev ∷ [])) ≡ total before + k = rw (total-++ before (ev ∷ []), add-zero) refl in
-      ⊎-elim (λ c. let later = stops (before ++ (ev ∷ [])) (joined a (then away done stay)) (omega (arith, sum, c)) rest (omega (arith, sum)) in
+      ⊎-elim (λ c. let later = stops (before ++ (ev ∷ [])) (joined a (then away done stay)) (omega (arith, sum, c)) rest
+      (omega (arith, sum)) in
       rw (append-assoc before (ev ∷ []) evs) at later)
       (λ c. stops-here before ev evs a l away done c) (le-or-lt (total before + k) b)
 
-pub run-stops : {r e : Registers} {m n : List ℕ} {evs : List Event} → length m ≡ 65536 → Along r m evs e n → (b : ℕ) → b < total evs → Stops r m evs b
+pub run-stops : {r e : Registers} {m n : List ℕ} {evs : List Event} → length m ≡ 65536 → Along r m evs e n → (b : ℕ) →
+    b < total evs → Stops r m evs b
 run-stops {r} {m} whole a b u = stops r m whole b [] stay (omega arith) a (omega arith)

@@ -10,6 +10,7 @@ use Rattle.rules.specs.Checks.{verdictOn}
 use Rattle.rules.proofs.Passes.{append-says, first-says}
 use Rattle.rules.proofs.MarkChecks.{tests, marks-says}
 
-pub accepts : (f : Fields) (image : List ℕ) (A : Accepted f image) → verdictOn f image ≡ Accept (f .header .entry) (A .start .cost) (record { 0 = A .start .need .0 + 2 })
+pub accepts : (f : Fields) (image : List ℕ) (A : Accepted f image) →
+    verdictOn f image ≡ Accept (f .header .entry) (A .start .cost) (record { 0 = A .start .need .0 + 2 })
 unfolding verdictOn
 accepts f image A = simp (first-says, append-says, marks-says, tests) (rw (A .start-marked) (simp tests (search)))

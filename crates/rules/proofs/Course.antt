@@ -28,7 +28,8 @@ pub record Course (f : Fields) (need : ℕ) (r : Registers) (m : List ℕ) (used
   pub safe : Safe f need used events
 
 module _ {f : Fields} {image : List ℕ} (A : Accepted f image) where
-  module _ (r : Registers) (m : List ℕ) (used : List (List ℕ)) (p : ℕ) (away : r .pc ≡ 0 → ⊥) (S : Stepped A r m used p) where
+  module _ (r : Registers) (m : List ℕ) (used : List (List ℕ)) (p : ℕ) (away : r .pc ≡ 0 →
+      ⊥) (S : Stepped A r m used p) where
     abbrev event : Event
     event = record { flow = flowOf m (r .pc); stores = S .stores; cycles = S .cycles; sp = S .registers .sp }
 
@@ -36,7 +37,8 @@ module _ {f : Fields} {image : List ℕ} (A : Accepted f image) where
     abbrev Next : (Registers → List ℕ → List (List ℕ) → ℕ → Type 0) → Type 0
     Next P = P (S .registers) (applied (S .stores) m) (inUseAfter (flowOf m (r .pc)) (S .stores) used) (S .left)
 
-    first : Keeps f (A .start .need .0) used event → Next (Course f (A .start .need .0)) → Course f (A .start .need .0) r m used p
+    first : Keeps f (A .start .need .0) used event → Next (Course f (A .start .need .0)) →
+        Course f (A .start .need .0) r m used p
     first K C = record {
       events = event ∷ C .events;
       last = C .last;
@@ -48,15 +50,36 @@ module _ {f : Fields} {image : List ℕ} (A : Accepted f image) where
       safe = (K, C .safe);
     }
 
-    next : (Next (Ready A) → Next (Course f (A .start .need .0))) → Arrived f (S .registers) ⊎ Next (Ready A) → Course f (A .start .need .0) r m used p
+    next : (Next (Ready A) → Next (Course f (A .start .need .0))) → Arrived f (S .registers) ⊎ Next (Ready A) →
+        Course f (A .start .need .0) r m used p
     next rest (inl a) =
-        first (record { spares = S .spares; sp-low = omega (arith, a .sp); sp-high = omega (arith, a .sp); sp-need = omega (arith, a .sp) })
-        (record { events = []; last = S .registers; memory = applied (S .stores) m; along = stay; home = a .pc; in-time = omega arith; empty = a .sp; safe = tt })
+        first (record {
+          spares = S .spares;
+          sp-low = omega (arith, a .sp);
+          sp-high = omega (arith, a .sp);
+          sp-need = omega (arith, a .sp);
+        })
+        (record {
+          events = [];
+          last = S .registers;
+          memory = applied (S .stores) m;
+          along = stay;
+          home = a .pc;
+          in-time = omega arith;
+          empty = a .sp;
+          safe = tt;
+        })
     next rest (inr R) =
-        first (record { spares = S .spares; sp-low = omega (arith, free R); sp-high = omega (arith, under-top R, R .depth); sp-need = omega (arith, R .room) })
+        first (record {
+          spares = S .spares;
+          sp-low = omega (arith, free R);
+          sp-high = omega (arith, under-top R, R .depth);
+          sp-need = omega (arith, R .room);
+        })
         (rest R)
 
-  pub course : (n : ℕ) (r : Registers) (m : List ℕ) (used : List (List ℕ)) (p : ℕ) → p ≤ n → Ready A r m used p → Course f (A .start .need .0) r m used p
+  pub course : (n : ℕ) (r : Registers) (m : List ℕ) (used : List (List ℕ)) (p : ℕ) → p ≤ n → Ready A r m used p →
+      Course f (A .start .need .0) r m used p
   course zero r m used p b R =
       let S = one-step R in
       absurd (omega (arith, busy r (S .registers) m (S .stores) (S .cycles) (S .done), S .cost))

@@ -17,7 +17,8 @@ use Rattle.rules.proofs.Only.{only}
 use Rattle.rules.proofs.Budget.{run-home, run-stops}
 use Rattle.rules.proofs.Start.{start-course}
 
-pub comes-home : (f : Fields) (image : List ℕ) (A : Accepted f image) → Demand3 f image (A .start .cost .0) (A .start .need .0)
+pub comes-home : (f : Fields) (image : List ℕ) (A : Accepted f image) →
+    Demand3 f image (A .start .cost .0) (A .start .need .0)
 comes-home f image A d m L =
     let c = start-course f image A d m L in
     record {
@@ -35,7 +36,8 @@ comes-home f image A d m L =
     }
 
 -- over the verdict of a ticket's and an image's bytes
-pub demand-3 : (ticket image : List ℕ) → AllBytes ticket → (e : ℕ) (c : Cycles) (s : StackBytes) → verdictOf ticket image ≡ Accept e c s
+pub demand-3 : (ticket image : List ℕ) → AllBytes ticket → (e : ℕ) (c : Cycles) (s : StackBytes) →
+    verdictOf ticket image ≡ Accept e c s
     → (C : Certified ticket image e c s) × Demand3 (C .fields) image (c .0) (s .0 - 2)
 demand-3 ticket image bytes e c s v =
     let C = accepts-exactly ticket image bytes e c s .0 v in

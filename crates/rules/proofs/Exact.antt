@@ -18,14 +18,16 @@ use Rattle.rules.proofs.Sound.{accepted}
 use Rattle.rules.proofs.Complete.{accepts}
 
 -- by what reading the ticket gives
-certifies : (ticket image : List ℕ) → AllBytes ticket → (e : ℕ) (c : Cycles) (s : StackBytes) (o : Outcome) → readOf ticket ≡ o → verdictBy o image ≡ Accept e c s → Certified ticket image e c s
+certifies : (ticket image : List ℕ) → AllBytes ticket → (e : ℕ) (c : Cycles) (s : StackBytes) (o : Outcome) →
+    readOf ticket ≡ o → verdictBy o image ≡ Accept e c s → Certified ticket image e c s
 certifies ticket image b e c s (refused r) h v = absurd (refuses e c s r v)
 certifies ticket image b e c s (read f) h v =
     let r = read-rules ticket f b h in
     let a = accepted f image (r .2) e c s v in
     record { fields = f; bytes = r .0; fits = r .1; accepted = a .0; entry-is = a .1; cost-is = a .2; stack-is = a .3 }
 
-pub accepts-exactly : (ticket image : List ℕ) → AllBytes ticket → (e : ℕ) (c : Cycles) (s : StackBytes) → (verdictOf ticket image ≡ Accept e c s) ↔ Certified ticket image e c s
+pub accepts-exactly : (ticket image : List ℕ) → AllBytes ticket → (e : ℕ) (c : Cycles) (s : StackBytes) →
+    (verdictOf ticket image ≡ Accept e c s) ↔ Certified ticket image e c s
 unfolding verdictOf
 accepts-exactly ticket image b e c s = (
   certifies ticket image b e c s (readOf ticket) refl,

@@ -13,7 +13,8 @@ use Rattle.rules.specs.Marks.{claimAt}
 use Rattle.rules.specs.Claim.{topOf}
 use Rattle.rules.proofs.Memory.{Holds}
 
--- a return address with its claim, and the base of the routine that it lies in. A routine's base is SP as the routine begins
+-- a return address with its claim, and the base of the routine that it lies in. A routine's base is SP as the routine
+-- begins
 pub record Frame : Type 0 where
   pub address : ℕ
   pub claim : Claim
@@ -46,7 +47,8 @@ module _ (f : Fields) (need : ℕ) (m : List ℕ) where
   base-top b (u ∷ us) h = omega (arith, base-top (u .base) us (h .1), h .0 .base)
 
   -- what is no address over the base is in no pair
-  pub pairs-away : (b : ℕ) (us : List Frame) → Stacked f need m b us → (a : ℕ) → ((x : ℕ) → b < x → x ≤ topOf f → a ≡ x → ⊥)
+  pub pairs-away : (b : ℕ) (us : List Frame) → Stacked f need m b us → (a : ℕ) →
+      ((x : ℕ) → b < x → x ≤ topOf f → a ≡ x → ⊥)
       → Every (Every (λ x. a ≡ x → ⊥)) (pairs b us)
   pairs-away b [] h a away =
       let top : b + 2 ≡ topOf f = h .0 in

@@ -19,7 +19,8 @@ use Rattle.ticket.proofs.Says.{leb-says, ltb-says, eqb-says}
 use Rattle.rules.specs.Shape.{Ordinary, Call, Shape, ordinary, call, return, forbidden, nothing}
 use Rattle.rules.specs.Marks.{claimAt}
 use Rattle.rules.specs.Rules.{Follows, CallRules, RulesBy, RulesAt}
-use Rattle.rules.specs.Checks.{all, isMarked, nextMarked, depthsAgree, costsCover, needsCover, checksBy, checksAt, checksOfMarks}
+use Rattle.rules.specs.Checks.{all, isMarked, nextMarked, depthsAgree, costsCover, needsCover, checksBy, checksAt}
+use Rattle.rules.specs.Checks.{checksOfMarks}
 use Rattle.rules.proofs.Passes.{Passes, append-says}
 
 pub ruleset tests = (and-eq-true-iff, leb-says, ltb-says, eqb-says)
@@ -38,7 +39,8 @@ at o l = record { next = l; pushed = o .pushed; pulled = o .pulled; written = o 
 
 -- the checks of causes 14 to 17 pass
 abbrev LeadsOn : Fields → Claim → Shape → Type 0
-LeadsOn f k s = (nextMarked f k s ≡ true) × (depthsAgree f k s ≡ true) × (costsCover f k s ≡ true) × (needsCover f k s ≡ true)
+LeadsOn f k s =
+    (nextMarked f k s ≡ true) × (depthsAgree f k s ≡ true) × (costsCover f k s ≡ true) × (needsCover f k s ≡ true)
 
 module _ (f : Fields) (k : Claim) where
   -- at the addresses l
@@ -50,7 +52,13 @@ module _ (f : Fields) (k : Claim) where
         λ e.
             let c = marked (claimAt (f .marks) a) (e .0 .0) in
             Every.more
-            (record { there = c .0; marked = c .1; depth = eqb-true _ _ (rw (c .1) at (e .1 .0)); cost = leb-true _ _ (rw (c .1) at (e .2 .0)); need = leb-true _ _ (rw (c .1) at (e .3 .0)) })
+            (record {
+              there = c .0;
+              marked = c .1;
+              depth = eqb-true _ _ (rw (c .1) at (e .1 .0));
+              cost = leb-true _ _ (rw (c .1) at (e .2 .0));
+              need = leb-true _ _ (rw (c .1) at (e .3 .0));
+            })
             (rest .0 (search)),
         λ r.
             let h = first r .0 in
@@ -78,7 +86,8 @@ module _ (f : Fields) (k : Claim) where
   )
 
 -- by the shape of the instruction; i: it does not leave the code window
-shape-says : (f : Fields) (m : Mark) (s : Shape) (i : Bool) → Passes (checksBy f m s i) ↔ ((i ≡ true) × RulesBy f (m .claim) s)
+shape-says : (f : Fields) (m : Mark) (s : Shape) (i : Bool) →
+    Passes (checksBy f m s i) ↔ ((i ≡ true) × RulesBy f (m .claim) s)
 shape-says f m (ordinary o) i =
     let n = next-says f (m .claim) o (o .next) in
     simp (tests, written-says) (λ e. search (n .0), λ r. let t = n .1 (r .1 .follows) in search)
@@ -93,6 +102,7 @@ at-says : (f : Fields) (image : List ℕ) (m : Mark) → Passes (checksAt f imag
 unfolding checksAt
 at-says f image m = simp (shape-says, leb-says) (λ e. search, λ r. search)
 
-pub marks-says : (f : Fields) (image : List ℕ) (ms : List Mark) → Passes (checksOfMarks f image ms) ↔ Every (RulesAt f image) ms
+pub marks-says : (f : Fields) (image : List ℕ) (ms : List Mark) →
+    Passes (checksOfMarks f image ms) ↔ Every (RulesAt f image) ms
 marks-says f image [] = (λ e. Every.none, λ r. tt)
 marks-says f image (m ∷ ms) = simp (append-says, at-says, marks-says f image ms) (λ e. Every.more (e .0) (e .1), first)

@@ -26,6 +26,7 @@ here Q m ms a k true t q later h =
     (m .name, rw (same, claims) q)
 here Q m ms a k false t q later h = later h
 
-pub holding : (Q : Mark → Type 0) (ms : List Mark) → Every Q ms → (a : ℕ) (k : Claim) → claimAt ms a ≡ some k → Holding Q a k
+pub holding : (Q : Mark → Type 0) (ms : List Mark) → Every Q ms → (a : ℕ) (k : Claim) → claimAt ms a ≡ some k →
+    Holding Q a k
 holding Q [] none a k h = let no : _≡_ {A = ℕ} 0 1 = cc in absurd (omega arith)
 holding Q (m ∷ ms) (more q qs) a k h = here Q m ms a k (eqb (m .address) a) refl q (holding Q ms qs a k) h

@@ -32,16 +32,19 @@ unfolding withByte
 length-applied [] m = refl
 length-applied (w ∷ ws) m = length-applied ws (set m (w .at) (w .value)) ∙ length-set m (w .at) (w .value)
 
-pub byte-applied : {ws : List Store} (m : List ℕ) (a : ℕ) → Every (λ w. w .at ≡ a → ⊥) ws → byteAt (applied ws m) a ≡ byteAt m a
+pub byte-applied : {ws : List Store} (m : List ℕ) (a : ℕ) → Every (λ w. w .at ≡ a → ⊥) ws →
+    byteAt (applied ws m) a ≡ byteAt m a
 unfolding byteAt withByte
 byte-applied m a none = refl
-byte-applied m a (more {a = w} h hs) = byte-applied (set m (w .at) (w .value)) a hs ∙ getD-set-other m (w .at) a (w .value) 0 (λ e. h (sym e))
+byte-applied m a (more {a = w} h hs) =
+    byte-applied (set m (w .at) (w .value)) a hs ∙ getD-set-other m (w .at) a (w .value) 0 (λ e. h (sym e))
 
 -- the two bytes over b, high byte below low byte, hold v
 abbrev pub Holds : List ℕ → ℕ → ℕ → Type 0
 Holds m b v = byteAt m (b + 1) * 256 + byteAt m (b + 2) ≡ v
 
-pub pushed-holds : (m : List ℕ) (s b v : ℕ) → s ≡ b + 2 → s < length m → s < 65536 → Holds (applied (pushStores s v) m) b v
+pub pushed-holds : (m : List ℕ) (s b v : ℕ) → s ≡ b + 2 → s < length m → s < 65536 →
+    Holds (applied (pushStores s v) m) b v
 unfolding byteAt withByte
 pushed-holds m s b v e h l =
     let under : wrappingSub s 1 ≡ b + 1 = omega (arith, less-is s 1 l (omega arith)) in

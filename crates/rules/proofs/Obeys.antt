@@ -1,4 +1,5 @@
--- What a step does, by the shape of the instruction that memory has at PC: PC, SP, stores and cycles, whatever the values.
+-- What a step does, by the shape of the instruction that memory has at PC: PC, SP, stores and cycles, whatever the
+-- values.
 -- Assumes nothing.
 use Prim.Native.Nat.{ℕ, _+_, _-_, _/_, _%_, _≤_, _<_}
 use mathlib.Core.Path.{_≡_, refl, ap}
@@ -20,14 +21,18 @@ use Rattle.opcodes.specs.declared.instruction.Address.the-variants.{Fixed, Inde
 use Rattle.opcodes.specs.declared.instruction.Decoded.{Decoded}
 use Rattle.opcodes.specs.declared.instruction.Decoded.the-variants.{Instruction, Nothing}
 use Rattle.instructions.specs.declared.form.Form.{Form}
-use Rattle.instructions.specs.declared.form.Form.the-variants.{Computes, StoresByte, StoresWord, PushesByte, PushesWord, PullsByte, PullsWord, Reserves, Releases, Branches, Jumps, Calls, Returns, MovesSp, Interrupts, Resumes, Waits}
+use Rattle.instructions.specs.declared.form.Form.the-variants.{Computes, StoresByte, StoresWord, PushesByte, PushesWord}
+use Rattle.instructions.specs.declared.form.Form.the-variants.{PullsByte, PullsWord, Reserves, Releases, Branches}
+use Rattle.instructions.specs.declared.form.Form.the-variants.{Jumps, Calls, Returns, MovesSp, Interrupts, Resumes}
+use Rattle.instructions.specs.declared.form.Form.the-variants.{Waits}
 use Rattle.instructions.specs.Operand.{addressOf, inputOf, maskOf}
 use Rattle.instructions.specs.Outcome.{Outcome}
 use Rattle.instructions.specs.Effect.{effectBy, effectWith, effectOf}
 use Rattle.stepper.specs.Step.{Did, did, fetched, executed, carriedOut, didIf, didOf, after, stepOf}
 use Rattle.stepper.proofs.Costs.{step-cost}
 use Rattle.commands.specs.Every.{Every, none, more}
-use Rattle.rules.specs.Shape.{Ordinary, Shape, ordinary, call, return, forbidden, nothing, shapeBy, shapeIn, shapeOf}
+use Rattle.rules.specs.Shape.{Ordinary, Shape, ordinary, call, return, forbidden, nothing, shapeBy, shapeIn}
+use Rattle.rules.specs.Shape.{shapeOf}
 use Rattle.stepper.specs.Flow.{calls, returns, plain, flowBy, flowIn, flowOf}
 
 -- some element of a list has a property
@@ -40,19 +45,24 @@ every-some [] none s = absurd s
 every-some (a ∷ l) (more p ps) (inl q) = (a, p, q)
 every-some (a ∷ l) (more p ps) (inr s) = every-some l ps s
 
--- a store of an ordinary instruction: on the stack from SP down, above the SP that it leaves, or to one of the addresses written
+-- a store of an ordinary instruction: on the stack from SP down, above the SP that it leaves, or to one of the
+-- addresses written
 abbrev pub Stored : Registers → Ordinary → Store → Type 0
-Stored r o w = ((i : ℕ) × (i + o .pulled < o .pushed) × (w .at ≡ wrappingSub (r .sp) i)) ⊎ Some (λ a. w .at ≡ a) (o .written)
+Stored r o w =
+    ((i : ℕ) × (i + o .pulled < o .pushed) × (w .at ≡ wrappingSub (r .sp) i)) ⊎ Some (λ a. w .at ≡ a) (o .written)
 
 abbrev pub Obeys : Shape → Registers → List ℕ → Type 0
 Obeys (ordinary o) r m =
-    (q : Registers) × (ws : List Store) × (didOf r m ≡ did q ws (o .cycles)) × (flowOf m (r .pc) ≡ plain) × Some (λ a. q .pc ≡ a) (o .next)
+    (q : Registers) × (ws : List Store) × (didOf r m ≡ did q ws (o .cycles)) × (flowOf m (r .pc) ≡ plain)
+    × Some (λ a. q .pc ≡ a) (o .next)
     × (q .sp ≡ (r .sp + o .pulled + (65536 - o .pushed)) % 65536) × Every (Stored r o) ws
 Obeys (call c) r m =
-    (q : Registers) × (didOf r m ≡ did q (store (r .sp) (c .after % 256) ∷ store (wrappingSub (r .sp) 1) (c .after / 256) ∷ []) (c .cycles))
+    (q : Registers) × (didOf r m ≡ did q (store (r .sp) (c .after % 256) ∷
+    store (wrappingSub (r .sp) 1) (c .after / 256) ∷ []) (c .cycles))
     × (flowOf m (r .pc) ≡ calls) × (q .pc ≡ c .target) × (q .sp ≡ wrappingSub (r .sp) 2)
 Obeys (return k) r m =
-    (q : Registers) × (didOf r m ≡ did q [] k) × (flowOf m (r .pc) ≡ returns) × (q .pc ≡ wordAt m (wrappingAdd (r .sp) 1)) × (q .sp ≡ wrappingAdd (r .sp) 2)
+    (q : Registers) × (didOf r m ≡ did q [] k) × (flowOf m (r .pc) ≡ returns)
+    × (q .pc ≡ wordAt m (wrappingAdd (r .sp) 1)) × (q .sp ≡ wrappingAdd (r .sp) 2)
 Obeys forbidden r m = Unit
 Obeys nothing r m = Unit
 
@@ -72,14 +82,16 @@ module _ (r : Registers) (m : List ℕ) (low : r .sp < 65536) where
   top n h = (0, omega arith, omega arith)
 
   -- next is the address after the instruction; w is what it computed, which does not matter
-  by-form : (g : Form) (next k : ℕ) (w : Outcome) → didOf r m ≡ executed (waits g) (r .pc) (effectWith g (withPc r next) w m) k
+  by-form : (g : Form) (next k : ℕ) (w : Outcome) → didOf r m
+      ≡ executed (waits g) (r .pc) (effectWith g (withPc r next) w m) k
       → flowOf m (r .pc) ≡ flowBy g → Obeys (shapeBy g next k) r m
   unfolding effectBy addressOf wrappingAdd wrappingSub
   by-form Computes next k w e h = (_, _, e, h, inl refl, kept, none)
   by-form (StoresByte (Fixed a)) next k w e h = (_, _, e, h, inl refl, kept, more (inr (inl refl)) none)
   by-form (StoresByte (IndexedX d)) next k w e h = tt
   by-form (StoresByte (IndexedY d)) next k w e h = tt
-  by-form (StoresWord (Fixed a)) next k w e h = (_, _, e, h, inl refl, kept, more (inr (inl refl)) (more (inr (inr (inl refl))) none))
+  by-form (StoresWord (Fixed a)) next k w e h =
+      (_, _, e, h, inl refl, kept, more (inr (inl refl)) (more (inr (inr (inl refl))) none))
   by-form (StoresWord (IndexedX d)) next k w e h = tt
   by-form (StoresWord (IndexedY d)) next k w e h = tt
   by-form PushesByte next k w e h = (_, _, e, h, inl refl, omega arith, more (inl (top 1 (omega arith))) none)
@@ -102,7 +114,8 @@ module _ (r : Registers) (m : List ℕ) (low : r .sp < 65536) where
   by-form Resumes next k w e h = tt
   by-form Waits next k w e h = tt
 
-  by-decoded : (p : ℕ) (d : Decoded) → didOf r m ≡ carriedOut p d r m → flowOf m (r .pc) ≡ flowIn p d (r .pc) → Obeys (shapeIn p d (r .pc)) r m
+  by-decoded : (p : ℕ) (d : Decoded) → didOf r m ≡ carriedOut p d r m → flowOf m (r .pc) ≡ flowIn p d (r .pc) →
+      Obeys (shapeIn p d (r .pc)) r m
   unfolding carriedOut effectOf
   by-decoded p Nothing e h = tt
   by-decoded p (Instruction a o) e h =
@@ -110,7 +123,8 @@ module _ (r : Registers) (m : List ℕ) (low : r .sp < 65536) where
       let q = withPc r next in
       by-form (formOf a o next) next (cyclesAt p) (outcomeOf a (maskOf o) (inputOf (readsOf a) o q m) q) e h
 
-pub obeys : (r : Registers) (m : List ℕ) → length m ≡ 65536 → r .sp < 65536 → Obeys (shapeOf (fetched m (r .pc)) (r .pc)) r m
+pub obeys : (r : Registers) (m : List ℕ) → length m ≡ 65536 → r .sp < 65536 →
+    Obeys (shapeOf (fetched m (r .pc)) (r .pc)) r m
 unfolding shapeOf didOf flowOf
 obeys r m whole low =
     let f = fetched m (r .pc) in

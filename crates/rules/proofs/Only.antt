@@ -9,10 +9,12 @@ use Rattle.stepper.specs.Step.{did}
 use Rattle.stepper.specs.Trace.{Event, Along, stay, then}
 
 -- what is done tells the registers, the stores and the cycles
-parts : {q q′ : Registers} {ws ws′ : List Store} {k k′ : ℕ} → did q ws k ≡ did q′ ws′ k′ → (q ≡ q′) × (ws ≡ ws′) × (k ≡ k′)
+parts : {q q′ : Registers} {ws ws′ : List Store} {k k′ : ℕ} → did q ws k ≡ did q′ ws′ k′ →
+    (q ≡ q′) × (ws ≡ ws′) × (k ≡ k′)
 parts e = (cc, cc, cc)
 
-pub only : {r : Registers} {m : List ℕ} {evs evs′ : List Event} {e e′ : Registers} {n n′ : List ℕ} → Along r m evs e n → e .pc ≡ 0 → Along r m evs′ e′ n′ → e′ .pc ≡ 0
+pub only : {r : Registers} {m : List ℕ} {evs evs′ : List Event} {e e′ : Registers} {n n′ : List ℕ} → Along r m evs e n →
+    e .pc ≡ 0 → Along r m evs′ e′ n′ → e′ .pc ≡ 0
     → (evs′ ≡ evs) × (e′ ≡ e) × (n′ ≡ n)
 only stay h stay h′ = (refl, refl, refl)
 only stay h (then away d a) h′ = absurd (away h)

@@ -26,10 +26,12 @@ module _ (e : ℕ) (c : Cycles) (s : StackBytes) where
   pub refuses : (r : Refusal) → Refuse r ≡ Accept e c s → ⊥
   refuses r h = let z : _≡_ {A = ℕ} 0 1 = cc in omega arith
 
-  cond-says : (b : Bool) (v : Verdict) (r : Refusal) → (cond b v (Refuse r) ≡ Accept e c s) ↔ ((b ≡ true) × (v ≡ Accept e c s))
+  cond-says : (b : Bool) (v : Verdict) (r : Refusal) → (cond b v (Refuse r) ≡ Accept e c s) ↔ ((b ≡ true)
+      × (v ≡ Accept e c s))
   cond-says true v r = (λ h. (refl, h), λ h. h .1)
   cond-says false v r = (λ h. absurd (refuses r h), λ h. absurd (false≢true (h .0)))
 
-  pub first-says : (cs : List Check) (v : Verdict) → (firstFailing cs v ≡ Accept e c s) ↔ (Passes cs × (v ≡ Accept e c s))
+  pub first-says : (cs : List Check) (v : Verdict) → (firstFailing cs v ≡ Accept e c s) ↔ (Passes cs
+      × (v ≡ Accept e c s))
   first-says [] v = (λ h. (tt, h), λ h. h .1)
   first-says (k ∷ cs) v = simp (cond-says, first-says cs v) (λ h. search, λ h. search)

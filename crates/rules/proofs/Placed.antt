@@ -51,11 +51,19 @@ module _
     module _ (ws : List Store) (P : Every (Placed f b) ws) where
       pub placed-spares : Every (Spares f (pairs b us)) ws
       placed-spares =
-          every-map (λ w p. record { inside = inside w p; code = off-code w p; returns = pairs-away f need m b us S (w .at) (off-stack w p) }) P
+          every-map (λ w p. record {
+            inside = inside w p;
+            code = off-code w p;
+            returns = pairs-away f need m b us S (w .at) (off-stack w p);
+          }) P
 
-      pub code-kept : (image : List ℕ) → length image ≡ f .header .code .length → Filled f image m → Filled f image (applied ws m)
+      pub code-kept : (image : List ℕ) → length image ≡ f .header .code .length → Filled f image m →
+          Filled f image (applied ws m)
       code-kept image size filled i h =
-          byte-applied m (f .header .code .start + i) (every-map (λ w p e. off-code w p (omega arith, omega arith)) P) ∙ filled i h
+          byte-applied m (f .header .code .start + i) (every-map (λ w p e. off-code w p (omega arith, omega arith)) P) ∙
+          filled i h
 
       pub stack-kept : Stacked f need (applied ws m) b us
-      stack-kept = stacked-keep f need m (applied ws m) b us (λ x h t. byte-applied m x (every-map (λ w p. off-stack w p x h t) P)) S
+      stack-kept =
+          stacked-keep f need m (applied ws m) b us (λ x h t.
+          byte-applied m x (every-map (λ w p. off-stack w p x h t) P)) S

@@ -30,7 +30,8 @@ use Rattle.rules.proofs.Frames.{Frame, Stacked, owed, pairs, base-top}
 use Rattle.rules.proofs.Placed.{Placed, Filled, placed-spares, code-kept, stack-kept}
 
 -- on the way: PC has a claim, and p cycles are enough for all that is to come
-pub record Ready {f : Fields} {image : List ℕ} (A : Accepted f image) (r : Registers) (m : List ℕ) (used : List (List ℕ)) (p : ℕ) : Type 0 where
+pub record Ready {f : Fields} {image : List ℕ} (A : Accepted f image) (r : Registers) (m : List ℕ)
+    (used : List (List ℕ)) (p : ℕ) : Type 0 where
   pub base : ℕ
   pub frames : List Frame
   pub claim : Claim
@@ -49,7 +50,8 @@ pub record Arrived (f : Fields) (r : Registers) : Type 0 where
   pub sp : r .sp ≡ topOf f
 
 -- a step was done, and `left` cycles are enough for the rest
-pub record Stepped {f : Fields} {image : List ℕ} (A : Accepted f image) (r : Registers) (m : List ℕ) (used : List (List ℕ)) (p : ℕ) : Type 0 where
+pub record Stepped {f : Fields} {image : List ℕ} (A : Accepted f image) (r : Registers) (m : List ℕ)
+    (used : List (List ℕ)) (p : ℕ) : Type 0 where
   pub registers : Registers
   pub stores : List Store
   pub cycles : ℕ
@@ -59,7 +61,8 @@ pub record Stepped {f : Fields} {image : List ℕ} (A : Accepted f image) (r : R
   pub cost : cycles + left ≤ p
   pub goes : Arrived f registers ⊎ Ready A registers (applied stores m) (inUseAfter (flowOf m (r .pc)) stores used) left
 
-module _ {f : Fields} {image : List ℕ} {A : Accepted f image} {r : Registers} {m : List ℕ} {used : List (List ℕ)} {p : ℕ} (R : Ready A r m used p) where
+module _ {f : Fields} {image : List ℕ} {A : Accepted f image} {r : Registers} {m : List ℕ} {used : List (List ℕ)}
+    {p : ℕ} (R : Ready A r m used p) where
   rules : HeaderRules (f .header)
   rules = A .readable .header-rules
 
@@ -78,7 +81,8 @@ module _ {f : Fields} {image : List ℕ} {A : Accepted f image} {r : Registers} 
   low = omega (arith, free, R .depth)
 
   inside : In (f .header .code) (r .pc)
-  inside = holding (MarkRules (f .header)) (f .marks) (A .readable .mark-rules) (r .pc) (R .claim) (R .marked) .1 .inside
+  inside =
+      holding (MarkRules (f .header)) (f .marks) (A .readable .mark-rules) (r .pc) (R .claim) (R .marked) .1 .inside
 
   rules-here : Holding (RulesAt f image) (r .pc) (R .claim)
   rules-here = holding (RulesAt f image) (f .marks) (A .each) (r .pc) (R .claim) (R .marked)
@@ -89,7 +93,9 @@ module _ {f : Fields} {image : List ℕ} {A : Accepted f image} {r : Registers} 
     spared = rw (R .in-use) (placed-spares f rules (R .base) low (A .start .need .0) m (R .frames) (R .stacked) ws P)
 
     filled : Filled f image (applied ws m)
-    filled = code-kept f rules (R .base) low (A .start .need .0) m (R .frames) (R .stacked) ws P image (A .image-length) (R .code)
+    filled =
+        code-kept f rules (R .base) low (A .start .need .0) m (R .frames) (R .stacked) ws P image (A .image-length)
+        (R .code)
 
     framed : Stacked f (A .start .need .0) (applied ws m) (R .base) (R .frames)
     framed = stack-kept f rules (R .base) low (A .start .need .0) m (R .frames) (R .stacked) ws P
@@ -98,7 +104,8 @@ module _ {f : Fields} {image : List ℕ} {A : Accepted f image} {r : Registers} 
     placed : (a : ℕ) → Follows (f .marks) (R .claim) o a
         → (w : Store) → Stored r o w → Placed f (R .base) w
     placed a F w (inl (i, h, e)) =
-        let d : wrappingSub (r .sp) i + i ≡ r .sp = less-is (r .sp) i (omega (arith, small, R .depth)) (omega (arith, free, F .need, rules .stack-start)) in
+        let d : wrappingSub (r .sp) i + i ≡ r .sp =
+        less-is (r .sp) i (omega (arith, small, R .depth)) (omega (arith, free, F .need, rules .stack-start)) in
         inl (omega (arith, free, F .need), omega (arith, R .depth))
     placed a F w (inr h) =
         let s : (x : ℕ) × In (f .header .«data») x × (w .at ≡ x) = every-some (o .written) (O .stores) h in
@@ -110,7 +117,8 @@ module _ {f : Fields} {image : List ℕ} {A : Accepted f image} {r : Registers} 
         let F : Follows (f .marks) (R .claim) o (s .0) = s .1 in
         let P : Every (Placed f (R .base)) ws = every-map (placed (s .0) F) stores in
         let e : q .sp + o .pushed ≡ r .sp + o .pulled =
-        rw sp (moved-is (r .sp) (o .pulled) (o .pushed) (omega (arith, free, F .need, rules .stack-start)) (omega (arith, small, R .depth, O .pulls))) in
+        rw sp (moved-is (r .sp) (o .pulled) (o .pushed) (omega (arith, free, F .need, rules .stack-start))
+        (omega (arith, small, R .depth, O .pulls))) in
         record {
           registers = q;
           stores = ws;
@@ -136,13 +144,17 @@ module _ {f : Fields} {image : List ℕ} {A : Accepted f image} {r : Registers} 
 
   by-call : (c : Call) → CallRules f (R .claim) c → Obeys (call c) r m → Stepped A r m used p
   by-call c C (q, done, flow, pc, sp) =
-      let one : wrappingSub (r .sp) 1 + 1 ≡ r .sp = less-is (r .sp) 1 (omega (arith, small, R .depth)) (omega (arith, free, C .there-need, rules .stack-start)) in
-      let e2 : r .sp ≡ q .sp + 2 = rw sp (sym (less-is (r .sp) 2 (omega (arith, small, R .depth)) (omega (arith, free, C .there-need, rules .stack-start)))) in
+      let one : wrappingSub (r .sp) 1 + 1 ≡ r .sp =
+      less-is (r .sp) 1 (omega (arith, small, R .depth)) (omega (arith, free, C .there-need, rules .stack-start)) in
+      let e2 : r .sp ≡ q .sp + 2 =
+      rw sp (sym (less-is (r .sp) 2 (omega (arith, small, R .depth))
+      (omega (arith, free, C .there-need, rules .stack-start)))) in
       let e1 : wrappingSub (r .sp) 1 ≡ q .sp + 1 = omega arith in
       let ws : List Store = pushStores (r .sp) (c .after) in
       let P : Every (Placed f (R .base)) ws =
       more {a = store (r .sp) (c .after % 256)} (inl (omega (arith, free, C .there-need), omega (arith, R .depth)))
-      (more {a = store (wrappingSub (r .sp) 1) (c .after / 256)} (inl (omega (arith, free, C .there-need), omega (arith, R .depth))) none) in
+      (more {a = store (wrappingSub (r .sp) 1) (c .after / 256)}
+      (inl (omega (arith, free, C .there-need), omega (arith, R .depth))) none) in
       record {
         registers = q;
         stores = ws;
@@ -165,7 +177,9 @@ module _ {f : Fields} {image : List ℕ} {A : Accepted f image} {r : Registers} 
               marked = C .back-marked;
               base = omega (arith, C .back-depth, R .depth);
               room = omega (arith, C .back-need, R .room);
-              holds = pushed-holds m (r .sp) (q .sp) (c .after) e2 (omega (arith, R .whole, small, R .depth)) (omega (arith, small, R .depth));
+              holds =
+                  pushed-holds m (r .sp) (q .sp) (c .after) e2 (omega (arith, R .whole, small, R .depth))
+                  (omega (arith, small, R .depth));
             },
             framed ws P,
           );
@@ -176,7 +190,8 @@ module _ {f : Fields} {image : List ℕ} {A : Accepted f image} {r : Registers} 
 
   -- home, or in the routine that called
   back : (us : List Frame) → Stacked f (A .start .need .0) m (R .base) us → used ≡ pairs (R .base) us
-      → (q : Registers) → q .pc ≡ wordAt m (wrappingAdd (R .base) 1) → q .sp ≡ R .base + 2 → Arrived f q ⊎ Ready A q m (tail used) (owed us)
+      → (q : Registers) → q .pc ≡ wordAt m (wrappingAdd (R .base) 1) → q .sp ≡ R .base + 2 →
+      Arrived f q ⊎ Ready A q m (tail used) (owed us)
   back [] S U q pc sp = inl (record { pc = pc ∙ word-holds m (R .base) 0 small (S .1); sp = sp ∙ S .0 })
   back (u ∷ us) S U q pc sp = inr (record {
     base = u .base;
@@ -203,7 +218,8 @@ module _ {f : Fields} {image : List ℕ} {A : Accepted f image} {r : Registers} 
         done = done;
         spares = none;
         cost = omega (arith, C .cost, R .cost);
-        goes = rw flow (back (R .frames) (R .stacked) (R .in-use) q (rw (← e) pc) (sp ∙ rw e (plus-is (R .base) 2 small)));
+        goes =
+            rw flow (back (R .frames) (R .stacked) (R .in-use) q (rw (← e) pc) (sp ∙ rw e (plus-is (R .base) 2 small)));
       }
 
   by-shape : (s : Shape) → RulesBy f (R .claim) s → Obeys s r m → Stepped A r m used p
@@ -219,7 +235,8 @@ module _ {f : Fields} {image : List ℕ} {A : Accepted f image} {r : Registers} 
   -- at a mark the memory's instruction is the image's
   memory-shape : shapeOf (fetched m (r .pc)) (r .pc) ≡ shapeOf (imageFrom (f .header .code) image (r .pc)) (r .pc)
   memory-shape =
-      same-shape (f .header .code) image m (r .pc) (λ e. subst (λ s. RulesBy f (R .claim) s) e (rules-here .1 .rules)) (inside .0) (rules-here .1 .within)
+      same-shape (f .header .code) image m (r .pc) (λ e. subst (λ s. RulesBy f (R .claim) s) e (rules-here .1 .rules))
+      (inside .0) (rules-here .1 .within)
       (rules .code-edge) (A .image-length) (R .code)
 
   pub one-step : Stepped A r m used p

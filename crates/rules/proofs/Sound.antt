@@ -15,7 +15,8 @@ use Rattle.rules.specs.Checks.{verdictOn}
 use Rattle.rules.proofs.Passes.{append-says, first-says}
 use Rattle.rules.proofs.MarkChecks.{tests, marked, marks-says}
 
-pub accepted : (f : Fields) (image : List ℕ) → Readable f → (e : ℕ) (c : Cycles) (s : StackBytes) → verdictOn f image ≡ Accept e c s
+pub accepted : (f : Fields) (image : List ℕ) → Readable f → (e : ℕ) (c : Cycles) (s : StackBytes) →
+    verdictOn f image ≡ Accept e c s
     → (A : Accepted f image) × (e ≡ f .header .entry) × (c ≡ A .start .cost) × (s .0 ≡ A .start .need .0 + 2)
 unfolding verdictOn
 accepted f image r e c s j =

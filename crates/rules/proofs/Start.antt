@@ -19,7 +19,9 @@ ready : (f : Fields) (image : List ℕ) (A : Accepted f image) (d : Data) (m : L
 ready f image A d m L =
     let H = A .readable .header-rules in
     let b : ℕ = wrappingSub (topOf f) 2 in
-    let e : b + 2 ≡ topOf f = less-is (topOf f) 2 (omega (arith, H .stack-edge, H .stack-start)) (omega (arith, H .stack-start, H .stack-length .0)) in
+    let e : b + 2 ≡ topOf f =
+    less-is (topOf f) 2 (omega (arith, H .stack-edge, H .stack-start))
+    (omega (arith, H .stack-start, H .stack-length .0)) in
     let e1 : b + 1 ≡ topOf f - 1 = omega arith in
     record {
       base = b;
@@ -38,4 +40,5 @@ ready f image A d m L =
 pub start-course : (f : Fields) (image : List ℕ) (A : Accepted f image) (d : Data) (m : List ℕ) → Loaded f image m
     → Course f (A .start .need .0) (startOf d (f .header .entry) (topOf f)) m (homePair f ∷ []) (A .start .cost .0)
 start-course f image A d m L =
-    course A (A .start .cost .0) (startOf d (f .header .entry) (topOf f)) m (homePair f ∷ []) (A .start .cost .0) (omega arith) (ready f image A d m L)
+    course A (A .start .cost .0) (startOf d (f .header .entry) (topOf f)) m (homePair f ∷ []) (A .start .cost .0)
+    (omega arith) (ready f image A d m L)

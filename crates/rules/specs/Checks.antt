@@ -1,4 +1,5 @@
--- The verdict: document 01's causes in its order, each a test; the first that fails is the answer, with its number and place.
+-- The verdict: document 01's causes in its order, each a test; the first that fails is the answer, with its number and
+-- place.
 -- Assumes nothing.
 use Prim.Native.Nat.{ℕ, _+_}
 use mathlib.Core.Bool.{Bool, true, false, cond, _&&_}
@@ -13,7 +14,8 @@ use Rattle.ticket.specs.Fields.{Fields, Outcome, read, refused}
 use Rattle.ticket.specs.Read.{refusal, readOf}
 use Rattle.answers.specs.declared.Verdict.{Verdict}
 use Rattle.answers.specs.declared.Verdict.the-variants.{Accept, Refuse}
-use Rattle.rules.specs.Shape.{Ordinary, Shape, ordinary, call, return, forbidden, nothing, shapeOf, instructionSize}
+use Rattle.rules.specs.Shape.{Ordinary, Shape, ordinary, call, return, forbidden, nothing, shapeOf}
+use Rattle.rules.specs.Shape.{instructionSize}
 use Rattle.rules.specs.Marks.{claimAt, imageFrom}
 
 -- a test, with the number of its cause and its place
@@ -107,7 +109,8 @@ module _ (f : Fields) (k : Claim) where
   depthsAgree (ordinary o) =
       all (λ a. onMark (depthAgrees k o) (claimAt (f .marks) a)) (o .next)
   depthsAgree (call c) =
-      onMark (hasDepth 0) (claimAt (f .marks) (c .target)) && onMark (hasDepth (k .depth .0)) (claimAt (f .marks) (c .after))
+      onMark (hasDepth 0) (claimAt (f .marks) (c .target)) &&
+      onMark (hasDepth (k .depth .0)) (claimAt (f .marks) (c .after))
   depthsAgree (return cycles) = true
   depthsAgree forbidden = true
   depthsAgree nothing = true
@@ -116,7 +119,8 @@ module _ (f : Fields) (k : Claim) where
   costsCover (ordinary o) =
       all (λ a. onMark (costCovers k (o .cycles)) (claimAt (f .marks) a)) (o .next)
   costsCover (call c) =
-      onMark (λ t. onMark (λ b. costCoversCall k (c .cycles) t b) (claimAt (f .marks) (c .after))) (claimAt (f .marks) (c .target))
+      onMark (λ t. onMark (λ b. costCoversCall k (c .cycles) t b) (claimAt (f .marks) (c .after)))
+      (claimAt (f .marks) (c .target))
   costsCover (return cycles) = leb cycles (k .cost .0)
   costsCover forbidden = true
   costsCover nothing = true
@@ -125,7 +129,8 @@ module _ (f : Fields) (k : Claim) where
   needsCover (ordinary o) =
       all (λ a. onMark (needCovers k o) (claimAt (f .marks) a)) (o .next)
   needsCover (call c) =
-      onMark (needCoversTarget k) (claimAt (f .marks) (c .target)) && onMark (needCoversAfter k) (claimAt (f .marks) (c .after))
+      onMark (needCoversTarget k) (claimAt (f .marks) (c .target)) &&
+      onMark (needCoversAfter k) (claimAt (f .marks) (c .after))
   needsCover (return cycles) = true
   needsCover forbidden = true
   needsCover nothing = true
@@ -173,7 +178,8 @@ acceptOf entry none = Refuse (refusal 18 entry)
 acceptOf entry (some c) = Accept entry (c .cost) (record { 0 = c .need .0 + 2 })
 
 unfoldable pub verdictOn : Fields → List ℕ → Verdict
-verdictOn f image = firstFailing (checksOf f image) (acceptOf (f .header .entry) (claimAt (f .marks) (f .header .entry)))
+verdictOn f image =
+    firstFailing (checksOf f image) (acceptOf (f .header .entry) (claimAt (f .marks) (f .header .entry)))
 
 abbrev pub verdictBy : Outcome → List ℕ → Verdict
 verdictBy (refused r) image = Refuse r

@@ -1,4 +1,5 @@
--- Demand 3 as a statement about `stepOf`'s instructions and `runOf`: an accepted routine comes home (document 01, "Start" and "The way home").
+-- Demand 3 as a statement about `stepOf`'s instructions and `runOf`: an accepted routine comes home (document 01,
+-- "Start" and "The way home").
 -- Assumes nothing.
 use Prim.Native.Nat.{ℕ, _+_, _-_, _≤_, _<_}
 use mathlib.Core.Path.{_≡_}
@@ -21,7 +22,8 @@ use Rattle.rules.specs.InUse.{inUseAfter}
 abbrev pub topOf : Fields → ℕ
 topOf f = f .header .stack .start + f .header .stack .length - 1
 
--- document 01's start: the image fills the code window, home goes in as two zero bytes at T and T - 1, and every other byte is free
+-- document 01's start: the image fills the code window, home goes in as two zero bytes at T and T - 1, and every other
+-- byte is free
 pub record Loaded (f : Fields) (image m : List ℕ) : Type 0 where
   pub whole : length m ≡ 65536
   pub code : (i : ℕ) → i < length image → byteAt m (f .header .code .start + i) ≡ getD image i 0
@@ -78,7 +80,8 @@ pub record ComesHome (f : Fields) (cost need : ℕ) (r : Registers) (m : List �
   pub along : Along r m events last memory
   pub home : last .pc ≡ 0
   -- it is the only one
-  pub only : (evs : List Event) (e : Registers) (n : List ℕ) → Along r m evs e n → e .pc ≡ 0 → (evs ≡ events) × (e ≡ last) × (n ≡ memory)
+  pub only : (evs : List Event) (e : Registers) (n : List ℕ) → Along r m evs e n → e .pc ≡ 0 →
+      (evs ≡ events) × (e ≡ last) × (n ≡ memory)
   -- it ends within the certified cycles, with an empty stack
   pub in-time : total events ≤ cost
   pub empty : last .sp ≡ topOf f
@@ -89,4 +92,5 @@ pub record ComesHome (f : Fields) (cost need : ℕ) (r : Registers) (m : List �
 
 -- of an accepted ticket and image, for all A, B, X, Y and flags and all memory outside the code and home bytes
 abbrev pub Demand3 : Fields → List ℕ → ℕ → ℕ → Type 0
-Demand3 f image cost need = (d : Data) (m : List ℕ) → Loaded f image m → ComesHome f cost need (startOf d (f .header .entry) (topOf f)) m
+Demand3 f image cost need =
+    (d : Data) (m : List ℕ) → Loaded f image m → ComesHome f cost need (startOf d (f .header .entry) (topOf f)) m

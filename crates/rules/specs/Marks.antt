@@ -1,4 +1,5 @@
--- The claim of the mark at an address, and the bytes of an image that fills the code window (document 01, "The ticket": marks; "Start": the image fills the code window).
+-- The claim of the mark at an address, and the bytes of an image that fills the code window (document 01, "The ticket":
+-- marks; "Start": the image fills the code window).
 -- Assumes nothing.
 use Prim.Native.Nat.{ℕ, _+_, _-_}
 use mathlib.Core.Bool.{cond}

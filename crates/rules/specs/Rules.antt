@@ -1,4 +1,5 @@
--- Every ticket rule, stated without order or computation (document 01, "Rules at a mark", and causes 9 to 20; those at reading are `Readable`).
+-- Every ticket rule, stated without order or computation (document 01, "Rules at a mark", and causes 9 to 20; those at
+-- reading are `Readable`).
 -- Assumes nothing.
 use Prim.Native.Nat.{ℕ, _+_, _≤_}
 use mathlib.Core.Path.{_≡_}
@@ -14,7 +15,8 @@ use Rattle.ticket.specs.Write.{bytesOf}
 use Rattle.ticket.specs.RoundTrip.{FitsFields}
 use Rattle.commands.specs.Every.{Every}
 use Rattle.ticket.specs.Rules.{In, Readable}
-use Rattle.rules.specs.Shape.{Ordinary, Call, Shape, ordinary, call, return, forbidden, nothing, shapeOf, instructionSize}
+use Rattle.rules.specs.Shape.{Ordinary, Call, Shape, ordinary, call, return, forbidden, nothing, shapeOf}
+use Rattle.rules.specs.Shape.{instructionSize}
 use Rattle.rules.specs.Marks.{claimAt, imageFrom}
 
 -- at a successor of an ordinary instruction
@@ -54,7 +56,8 @@ RulesBy f k forbidden = ⊥
 RulesBy f k nothing = ⊥
 
 pub record RulesAt (f : Fields) (image : List ℕ) (m : Mark) : Type 0 where
-  pub within : m .address + instructionSize (imageFrom (f .header .code) image (m .address)) ≤ f .header .code .start + f .header .code .length
+  pub within : m .address + instructionSize (imageFrom (f .header .code) image (m .address)) ≤ f .header .code .start +
+      f .header .code .length
   pub rules : RulesBy f (m .claim) (shapeOf (imageFrom (f .header .code) image (m .address)) (m .address))
 
 pub record Accepted (f : Fields) (image : List ℕ) : Type 0 where
@@ -67,7 +70,8 @@ pub record Accepted (f : Fields) (image : List ℕ) : Type 0 where
   pub start-cost : start .cost .0 ≤ f .header .limit .0
   pub start-need : start .need .0 + 2 ≤ f .header .stack .length
 
--- what an acceptance says: the ticket is the bytes of fields of which every rule holds, and the answer is the entry, its cost and its need + 2
+-- what an acceptance says: the ticket is the bytes of fields of which every rule holds, and the answer is the entry,
+-- its cost and its need + 2
 pub record Certified (ticket image : List ℕ) (entry : ℕ) (cost : Cycles) (stack : StackBytes) : Type 0 where
   pub fields : Fields
   pub bytes : bytesOf fields ≡ ticket

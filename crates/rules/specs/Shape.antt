@@ -11,7 +11,10 @@ use Rattle.opcodes.specs.declared.instruction.Address.the-variants.{Fixed, Inde
 use Rattle.opcodes.specs.declared.instruction.Decoded.{Decoded}
 use Rattle.opcodes.specs.declared.instruction.Decoded.the-variants.{Instruction, Nothing}
 use Rattle.instructions.specs.declared.form.Form.{Form}
-use Rattle.instructions.specs.declared.form.Form.the-variants.{Computes, StoresByte, StoresWord, PushesByte, PushesWord, PullsByte, PullsWord, Reserves, Releases, Branches, Jumps, Calls, Returns, MovesSp, Interrupts, Resumes, Waits}
+use Rattle.instructions.specs.declared.form.Form.the-variants.{Computes, StoresByte, StoresWord, PushesByte, PushesWord}
+use Rattle.instructions.specs.declared.form.Form.the-variants.{PullsByte, PullsWord, Reserves, Releases, Branches}
+use Rattle.instructions.specs.declared.form.Form.the-variants.{Jumps, Calls, Returns, MovesSp, Interrupts, Resumes}
+use Rattle.instructions.specs.declared.form.Form.the-variants.{Waits}
 
 -- goes on inside its routine
 pub record Ordinary : Type 0 where
@@ -70,8 +73,8 @@ calls (Fixed a) after k = call (record { target = a; after = after; cycles = k }
 calls (IndexedX d) after k = forbidden
 calls (IndexedY d) after k = forbidden
 
--- by the form, the address after the instruction and its cycles. DES counts as one pushed, INS as one pulled. LDS, TXS, TYS, SWI, RTI, WAI, STOP and
--- TEST are forbidden
+-- by the form, the address after the instruction and its cycles. DES counts as one pushed, INS as one pulled. LDS, TXS,
+-- TYS, SWI, RTI, WAI, STOP and TEST are forbidden
 abbrev pub shapeBy : Form → ℕ → ℕ → Shape
 shapeBy Computes after k = leads (after ∷ []) k
 shapeBy (StoresByte p) after k = writes p (λ a. a ∷ []) after k
@@ -93,7 +96,8 @@ shapeBy Waits after k = forbidden
 
 abbrev pub shapeIn : ℕ → Decoded → ℕ → Shape
 shapeIn p Nothing a = nothing
-shapeIn p (Instruction act o) a = let after = wrappingAdd a (lengthAt p) in shapeBy (formOf act o after) after (cyclesAt p)
+shapeIn p (Instruction act o) a =
+    let after = wrappingAdd a (lengthAt p) in shapeBy (formOf act o after) after (cyclesAt p)
 
 -- of the instruction at address a, whose bytes are f; the step decodes with the same definition
 unfoldable pub shapeOf : Bytes → ℕ → Shape

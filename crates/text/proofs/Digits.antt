@@ -23,7 +23,8 @@ length-before (suc k) n l = by (ltb n 10) (length-before k (n / 10) ((48 + n % 1
     rest : List ℕ
     rest = decimalBefore k (n / 10) ((48 + n % 10) ∷ l)
 
-    by : (b : Bool) → length rest ≡ countOf k (n / 10) + suc (length l) → length (cond b ((48 + n) ∷ l) rest) ≡ cond b 1 (suc (countOf k (n / 10))) + length l
+    by : (b : Bool) → length rest ≡ countOf k (n / 10) + suc (length l) →
+        length (cond b ((48 + n) ∷ l) rest) ≡ cond b 1 (suc (countOf k (n / 10))) + length l
     by true e = omega arith
     by false e = omega arith
 
@@ -54,7 +55,8 @@ last-digits (suc k) n l = by (ltb n 10) (ltb-true n 10) (last-digits k (n / 10) 
     rest : List ℕ
     rest = decimalBefore k (n / 10) ((48 + n % 10) ∷ l)
 
-    by : (b : Bool) → (b ≡ true → n < 10) → rest ≡ lastBefore (countOf k (n / 10)) (n / 10) ((48 + n % 10) ∷ l) → cond b ((48 + n) ∷ l) rest ≡ lastBefore (cond b 1 (suc (countOf k (n / 10)))) n l
+    by : (b : Bool) → (b ≡ true → n < 10) → rest ≡ lastBefore (countOf k (n / 10)) (n / 10) ((48 + n % 10) ∷ l) →
+        cond b ((48 + n) ∷ l) rest ≡ lastBefore (cond b 1 (suc (countOf k (n / 10)))) n l
     by true h e = rw (mod-eq-of-lt (h refl))
     by false h e = e
 
@@ -63,7 +65,8 @@ pub decimal-last : (n : ℕ) → lastBefore (length (decimalOf n)) n [] ≡ deci
 unfolding decimalOf
 decimal-last n = rw (length-decimal n, last-digits 10 n [])
 
--- ---- counting: `left` is n without some digits, k is one more than these, and `left` has at most one digit more than `more`
+-- ---- counting: `left` is n without some digits, k is one more than these, and `left` has at most one digit more than
+-- `more`
 
 pub record Counted (n left k : ℕ) : Type 0 where
   pub more : ℕ
@@ -78,7 +81,12 @@ counted-next {n} {left} {k} c h = step (c .more) (c .small) (c .so-far)
   where
     step : (m : ℕ) → left < 10 ^ suc m → k + countOf (suc m) left ≡ suc (countOf 10 n) → Counted n (left / 10) (k + 1)
     step zero s e = absurd (omega arith)
-    step (suc m) s e = record { more = m; small = div-lt-iff-lt-mul {k = 10} (omega arith) .1 (rw pow-suc at s); so-far = omega (arith, rw (le-ltb left 10 h) at e) }
+    step (suc m) s e =
+        record {
+          more = m;
+          small = div-lt-iff-lt-mul {k = 10} (omega arith) .1 (rw pow-suc at s);
+          so-far = omega (arith, rw (le-ltb left 10 h) at e);
+        }
 
 pub counted-all : {n left k : ℕ} → Counted n left k → left < 10 → k ≡ length (decimalOf n)
 counted-all {n} {left} c h = rw (length-decimal n) (omega (arith, rw (lt-ltb left 10 h) at (c .so-far)))

@@ -52,7 +52,8 @@ pub by-five : (pc : ℕ) (f : Bytes) → listingOf pc f ≡ listingOf pc (five (
 unfolding listingOf bytesText opcodeSize
 by-five pc f = by (eqb (costAt (placeIn f)) 0) (ltb (placeIn f) 256)
   where
-    by : (none small : Bool) → byTests none small pc (placeIn f) f ≡ byTests none small pc (placeIn f) (five (f 0) (f 1) (f 2) (f 3) (f 4))
+    by : (none small : Bool) → byTests none small pc (placeIn f) f
+        ≡ byTests none small pc (placeIn f) (five (f 0) (f 1) (f 2) (f 3) (f 4))
     by true small = refl
     by false true = refl
     by false false = refl

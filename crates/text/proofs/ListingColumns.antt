@@ -14,9 +14,11 @@ module _ (a b c d e : ℕ) where
   -- the columns of p, q, r, s and t, a space between
   abbrev pub columns : (p q r s t : List ℕ) → List ℕ
   columns p q r s t =
-      getD p 0 0 ∷ getD p 1 0 ∷ 32 ∷ getD q 0 0 ∷ getD q 1 0 ∷ 32 ∷ getD r 0 0 ∷ getD r 1 0 ∷ 32 ∷ getD s 0 0 ∷ getD s 1 0 ∷ 32 ∷ getD t 0 0 ∷ getD t 1 0 ∷ []
+      getD p 0 0 ∷ getD p 1 0 ∷ 32 ∷ getD q 0 0 ∷ getD q 1 0 ∷ 32 ∷ getD r 0 0 ∷ getD r 1 0 ∷ 32 ∷ getD s 0 0 ∷
+      getD s 1 0 ∷ 32 ∷ getD t 0 0 ∷ getD t 1 0 ∷ []
 
-  pub shown : (n : ℕ) → columns (columnOf (ltb 0 n) a) (columnOf (ltb 1 n) b) (columnOf (ltb 2 n) c) (columnOf (ltb 3 n) d) (columnOf (ltb 4 n) e) ≡ bytesText n (five a b c d e)
+  pub shown : (n : ℕ) → columns (columnOf (ltb 0 n) a) (columnOf (ltb 1 n) b) (columnOf (ltb 2 n) c)
+      (columnOf (ltb 3 n) d) (columnOf (ltb 4 n) e) ≡ bytesText n (five a b c d e)
   unfolding bytesText
   shown zero = refl
   shown (suc zero) = refl
@@ -25,4 +27,11 @@ module _ (a b c d e : ℕ) where
   shown (suc (suc (suc (suc zero)))) = refl
   shown (suc (suc (suc (suc (suc n))))) =
       let m = suc (suc (suc (suc (suc n)))) in
-      simp (lt-ltb 0 m (omega arith), lt-ltb 1 m (omega arith), lt-ltb 2 m (omega arith), lt-ltb 3 m (omega arith), lt-ltb 4 m (omega arith), take-nil {A = ℕ} n)
+      simp (
+        lt-ltb 0 m (omega arith),
+        lt-ltb 1 m (omega arith),
+        lt-ltb 2 m (omega arith),
+        lt-ltb 3 m (omega arith),
+        lt-ltb 4 m (omega arith),
+        take-nil {A = ℕ} n,
+      )

@@ -62,14 +62,17 @@ module _ (u v w next : ℕ) where
   unfolding operandText spliced
   mask-y = refl
 
-  pub mask-branch-direct : wordIn (byteIn (byteIn (ascii "*$00 #$00 $0000  ") 2 u) 7 v) 11 (targetOf next w) ≡ operandText Mode.MaskBranchDirect u v w next
+  pub mask-branch-direct : wordIn (byteIn (byteIn (ascii "*$00 #$00 $0000  ") 2 u) 7 v) 11 (targetOf next w)
+      ≡ operandText Mode.MaskBranchDirect u v w next
   unfolding operandText spliced hexOf
   mask-branch-direct = refl
 
-  pub mask-branch-x : wordIn (byteIn (byteIn (ascii "$00,X #$00 $0000 ") 1 u) 8 v) 12 (targetOf next w) ≡ operandText Mode.MaskBranchX u v w next
+  pub mask-branch-x : wordIn (byteIn (byteIn (ascii "$00,X #$00 $0000 ") 1 u) 8 v) 12 (targetOf next w)
+      ≡ operandText Mode.MaskBranchX u v w next
   unfolding operandText spliced hexOf
   mask-branch-x = refl
 
-  pub mask-branch-y : wordIn (byteIn (byteIn (ascii "$00,Y #$00 $0000 ") 1 u) 8 v) 12 (targetOf next w) ≡ operandText Mode.MaskBranchY u v w next
+  pub mask-branch-y : wordIn (byteIn (byteIn (ascii "$00,Y #$00 $0000 ") 1 u) 8 v) 12 (targetOf next w)
+      ≡ operandText Mode.MaskBranchY u v w next
   unfolding operandText spliced hexOf
   mask-branch-y = refl

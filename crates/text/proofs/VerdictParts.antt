@@ -18,7 +18,8 @@ pub length-hex : (n : ℕ) → length (hexOf n) ≡ 4
 unfolding hexOf
 length-hex n = refl
 
-pub accept-parts : (e c s : ℕ) → acceptLine e c s ≡ (((((accept ++ hexOf e) ++ space) ++ decimalOf c) ++ space) ++ decimalOf s) ++ end
+pub accept-parts : (e c s : ℕ) → acceptLine e c s ≡ (((((accept ++ hexOf e) ++ space) ++ decimalOf c) ++ space) ++
+    decimalOf s) ++ end
 unfolding acceptLine
 accept-parts e c s = simp append-assoc
 
@@ -27,7 +28,8 @@ unfolding refuseLine
 refuse-parts n p = simp append-assoc
 
 -- what stands from the beginning on ends where it is long
-pub placed-first : {old new now : List ℕ} {next : ℕ} → Placed old 0 new now next → (now ≡ spliced old 0 new) × (next ≡ length new)
+pub placed-first : {old new now : List ℕ} {next : ℕ} → Placed old 0 new now next →
+    (now ≡ spliced old 0 new) × (next ≡ length new)
 placed-first p = (p .bytes, rw zero-add at (p .end))
 
 pub line-most : (v : Verdict) → length (lineOf v) ≤ 64

@@ -10,7 +10,8 @@ use lib.ListN.{getD, drop}
 use Rattle.answers.specs.declared.Verdict.{Verdict}
 use Rattle.answers.specs.declared.Verdict.the-variants.{Accept, Refuse}
 use Rattle.text.specs.Number.{decimalOf}
-use Rattle.text.proofs.Spelled.{hexFrom, hex-back, hex-after, numberFrom, afterNumber, decimal-back, decimal-after}
+use Rattle.text.proofs.Spelled.{hexFrom, hex-back, hex-after, numberFrom, afterNumber, decimal-back}
+use Rattle.text.proofs.Spelled.{decimal-after}
 use Rattle.text.specs.Verdict.{end, acceptLine, refuseLine, lineOf}
 
 -- all numbers of a verdict are of 32 bits at most, as in every value of the code's types

@@ -10,11 +10,16 @@ use Rattle.lists.specs.inner.Splice.{spliced}
 use Rattle.text.specs.Number.{hexOf}
 use Rattle.text.specs.Columns.{flagsText}
 
-pub grown : (old : List ℕ) {new : List ℕ} (at : ℕ) {n : ℕ} (t : List ℕ) → new ≡ spliced old at t → n ≡ at + length t → at ≤ length old → take n new ≡ take at old ++ t
+pub grown : (old : List ℕ) {new : List ℕ} (at : ℕ) {n : ℕ} (t : List ℕ) → new ≡ spliced old at t → n ≡ at + length t →
+    at ≤ length old → take n new ≡ take at old ++ t
 unfolding spliced
 grown old at {n} t e h k =
     let whole : length (take at old ++ t) ≡ n = simp (length-append, length-take-le at old k) (omega arith) in
-    rw (e, ← append-assoc (take at old) t (drop (at + length t) old), take-at (take at old ++ t) (drop (at + length t) old) n whole)
+    rw (
+      e,
+      ← append-assoc (take at old) t (drop (at + length t) old),
+      take-at (take at old ++ t) (drop (at + length t) old) n whole,
+    )
 
 pub four : {h : List ℕ} (n : ℕ) → h ≡ hexOf n → length h ≡ 4
 unfolding hexOf

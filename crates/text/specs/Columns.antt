@@ -22,8 +22,10 @@ flagOf on letter = cond on letter (code "-")
 -- S X H I N Z V C, from bit 7 to bit 0
 unfoldable pub flagsText : ℕ → List ℕ
 flagsText n =
-    flagOf (bit 7 n) (code "S") ∷ flagOf (bit 6 n) (code "X") ∷ flagOf (bit 5 n) (code "H") ∷ flagOf (bit 4 n) (code "I")
-    ∷ flagOf (bit 3 n) (code "N") ∷ flagOf (bit 2 n) (code "Z") ∷ flagOf (bit 1 n) (code "V") ∷ flagOf (low n) (code "C") ∷ []
+    flagOf (bit 7 n) (code "S") ∷ flagOf (bit 6 n) (code "X") ∷ flagOf (bit 5 n) (code "H") ∷
+    flagOf (bit 4 n) (code "I")
+    ∷ flagOf (bit 3 n) (code "N") ∷ flagOf (bit 2 n) (code "Z") ∷ flagOf (bit 1 n) (code "V") ∷
+    flagOf (low n) (code "C") ∷ []
 
 -- a register's name and its digits
 abbrev pub byteField : String → ℕ → List ℕ
@@ -34,7 +36,8 @@ wordField name v = ascii name ++ hexOf v
 
 unfoldable pub registersText : Registers → List ℕ
 registersText r =
-    byteField " A=" (r .a) ++ (byteField " B=" (r .b) ++ (wordField " X=" (r .x) ++ (wordField " Y=" (r .y) ++ (wordField " SP=" (r .sp) ++ (ascii " " ++ flagsText (r .flags))))))
+    byteField " A=" (r .a) ++ (byteField " B=" (r .b) ++ (wordField " X=" (r .x) ++
+    (wordField " Y=" (r .y) ++ (wordField " SP=" (r .sp) ++ (ascii " " ++ flagsText (r .flags))))))
 
 -- the line of an instruction alone
 unfoldable pub placeLine : ℕ → Listing → List ℕ

@@ -1,4 +1,5 @@
--- The line that ends a trace: at home, cycles and stack bytes as used of what is certified; spent, the cycles as used of the budget.
+-- The line that ends a trace: at home, cycles and stack bytes as used of what is certified; spent, the cycles as used
+-- of the budget.
 -- Assumes nothing.
 use Prim.Native.Nat.{ℕ}
 use mathlib.Core.List.{List, _++_}
@@ -8,7 +9,8 @@ use Rattle.text.specs.Line.{pairText}
 
 unfoldable pub totalsText : (label : List ℕ) → Totals → List ℕ
 totalsText label t =
-    pairText label (t .cycles .0) (t .allowed .0) ++ (pairText (ascii " stack=") (t .stack .0) (t .certified .0) ++ ascii "\n")
+    pairText label (t .cycles .0) (t .allowed .0) ++ (pairText (ascii " stack=") (t .stack .0) (t .certified .0) ++
+    ascii "\n")
 
 abbrev pub homeLine : Totals → List ℕ
 homeLine t = totalsText (ascii "HOME cycles=") t

@@ -1,4 +1,5 @@
--- An instruction as text, by the bytes from its address on. It is decoded by the definitions that the step decodes with.
+-- An instruction as text, by the bytes from its address on. It is decoded by the definitions that the step decodes
+-- with.
 -- Assumes nothing.
 use Prim.Native.Nat.{ℕ, _+_}
 use mathlib.Core.List.{List, [], _∷_, _++_}

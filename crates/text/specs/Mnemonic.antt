@@ -1,4 +1,5 @@
--- The name of an instruction, as the manual and an assembler write it. Where there are two, it is ASL and not LSL, BCC and not BHS, BCS and not BLO.
+-- The name of an instruction, as the manual and an assembler write it. Where there are two, it is ASL and not LSL, BCC
+-- and not BHS, BCS and not BLO.
 -- Assumes nothing.
 use Prim.Native.Nat.{ℕ, _%_}
 use Prim.Native.String.{String}
@@ -7,7 +8,12 @@ use mathlib.Core.List.{List, [], _∷_, _++_}
 use lib.ListN.{getD}
 use Rattle.opcodes.specs.inner.Fits.{relativeMode}
 use Rattle.opcodes.specs.declared.instruction.Action.{Action}
-use Rattle.opcodes.specs.declared.instruction.Action.the-variants.{Inherent, Unary, TstAccumulator, Binary, TstMemory, LoadWord, Addd, Subd, CompareWord, StoreByte, StoreWord, Modify, Bset, Bclr, Brset, Brclr, Branch, Jmp, Call, Rts, PushByte, PushWord, PullByte, PullWord, Des, Ins, SetStack, Swi, Rti, Wai, Stop, Test}
+use Rattle.opcodes.specs.declared.instruction.Action.the-variants.{Inherent, Unary, TstAccumulator, Binary, TstMemory}
+use Rattle.opcodes.specs.declared.instruction.Action.the-variants.{LoadWord, Addd, Subd, CompareWord, StoreByte}
+use Rattle.opcodes.specs.declared.instruction.Action.the-variants.{StoreWord, Modify, Bset, Bclr, Brset, Brclr, Branch}
+use Rattle.opcodes.specs.declared.instruction.Action.the-variants.{Jmp, Call, Rts, PushByte, PushWord, PullByte}
+use Rattle.opcodes.specs.declared.instruction.Action.the-variants.{PullWord, Des, Ins, SetStack, Swi, Rti, Wai, Stop}
+use Rattle.opcodes.specs.declared.instruction.Action.the-variants.{Test}
 use Rattle.opcodes.specs.declared.instruction.Inherent.{Inherent as Registers}
 use Rattle.opcodes.specs.declared.instruction.Inherent.the-variants as I
 use Rattle.opcodes.specs.declared.instruction.Unary.{Unary as OfOne}

@@ -1,4 +1,5 @@
--- Numbers as text: a byte in two hexadecimal digits and a word in four, in upper case; decimal digits without leading zeros (document 01, "One routine, read aloud").
+-- Numbers as text: a byte in two hexadecimal digits and a word in four, in upper case; decimal digits without leading
+-- zeros (document 01, "One routine, read aloud").
 -- Assumes nothing.
 use Prim.Native.Nat.{ℕ, zero, suc, _+_, _/_, _%_}
 use mathlib.Core.Bool.{cond}

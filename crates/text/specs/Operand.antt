@@ -1,4 +1,5 @@
--- An operand, as GNU's assembler for the 68HC11 writes it: `*` is direct addressing, and a mask and a branch's target follow after a space, as in the manual's source forms.
+-- An operand, as GNU's assembler for the 68HC11 writes it: `*` is direct addressing, and a mask and a branch's target
+-- follow after a space, as in the manual's source forms.
 -- Assumes nothing.
 use Prim.Native.Nat.{ℕ}
 use mathlib.Core.List.{List, [], _++_}

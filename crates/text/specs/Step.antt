@@ -1,4 +1,5 @@
--- The line of an instruction: what it is, the registers after it, the cycles so far, and what its mark claims beside what was used (document 01: cost, depth and need).
+-- The line of an instruction: what it is, the registers after it, the cycles so far, and what its mark claims beside
+-- what was used (document 01: cost, depth and need).
 -- Assumes nothing.
 use Prim.Native.Nat.{ℕ}
 use mathlib.Core.List.{List, _++_}
@@ -17,4 +18,5 @@ claimsText u c =
 unfoldable pub stepLine : Traced → List ℕ
 stepLine t =
     listingText (t .address) (t .listing)
-    ++ (registersText (t .after) ++ (fieldText (ascii " cycles=") (t .cycles .0) ++ (claimsText (t .used) (t .claim) ++ ascii "\n")))
+    ++ (registersText (t .after) ++ (fieldText (ascii " cycles=") (t .cycles .0) ++
+    (claimsText (t .used) (t .claim) ++ ascii "\n")))

@@ -1,4 +1,5 @@
--- The line of an address: how often it was executed, and the least and the most cycles to its routine's own return that were seen there.
+-- The line of an address: how often it was executed, and the least and the most cycles to its routine's own return that
+-- were seen there.
 -- Assumes nothing.
 use Prim.Native.Nat.{ℕ, _+_}
 use mathlib.Core.Bool.{cond}

@@ -1,4 +1,5 @@
--- The checking program's line: ACCEPT with the entry in four hexadecimal digits, the cost and the stack bytes; REFUSE with number and place (document 01, "One routine, read aloud").
+-- The checking program's line: ACCEPT with the entry in four hexadecimal digits, the cost and the stack bytes; REFUSE
+-- with number and place (document 01, "One routine, read aloud").
 -- Assumes nothing.
 use Prim.Native.Nat.{ℕ}
 use mathlib.Core.List.{List, _++_}

@@ -56,7 +56,8 @@ fn flags(n: u8) -> [u8; 8]
 
 fn with_byte(l: Line, label: &[u8], v: u8) -> Line
     requires { ⌜ l .len + length (now label) + 2 ≤ 256 ⌝ }
-    ensures { λ r. ⌜ (written r ≡ written l ++ (now (label .entry) ++ byteHex v)) × (r .len ≡ l .len + length (now (label .entry)) + 2) ⌝ }
+    ensures { λ r. ⌜ (written r ≡ written l ++ (now (label .entry) ++ byteHex v))
+        × (r .len ≡ l .len + length (now (label .entry)) + 2) ⌝ }
 {
     let h = hex2(v);
     with_text(with_text(l, label), &h)
@@ -64,7 +65,8 @@ fn with_byte(l: Line, label: &[u8], v: u8) -> Line
 
 fn with_word(l: Line, label: &[u8], v: u16) -> Line
     requires { ⌜ l .len + length (now label) + 4 ≤ 256 ⌝ }
-    ensures { λ r. ⌜ (written r ≡ written l ++ (now (label .entry) ++ hexOf v)) × (r .len ≡ l .len + length (now (label .entry)) + 4) ⌝ }
+    ensures { λ r. ⌜ (written r ≡ written l ++ (now (label .entry) ++ hexOf v))
+        × (r .len ≡ l .len + length (now (label .entry)) + 4) ⌝ }
 {
     let h = hex4(v);
     with_text(with_text(l, label), &h)

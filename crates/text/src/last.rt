@@ -1,4 +1,5 @@
-// The line that ends a trace: cycles and stack bytes, as used of what is certified. Where the budget did not cover the way, it stands in place of the certified cycles.
+// The line that ends a trace: cycles and stack bytes, as used of what is certified. Where the budget did not cover the
+// way, it stands in place of the certified cycles.
 ghost use mathlib.Core.Path.{_≡_};
 ghost use Prim.Native.Nat.{_≤_};
 ghost use lib.ListN.{length};
@@ -32,14 +33,16 @@ fn line(label: &[u8], t: Totals) -> Line
 // How many bytes the line has; it stands at the beginning of the output.
 pub fn put_home(t: Totals, out: &mut [u8]) -> usize
     requires { ⌜ length (now out) ≡ 256 ⌝ }
-    ensures { λ r. ⌜ (now (out .exit) ≡ spliced (now (out .entry)) 0 (homeLine t)) × (r ≡ length (homeLine t)) × (r ≤ 256) ⌝ }
+    ensures { λ r. ⌜ (now (out .exit) ≡ spliced (now (out .entry)) 0 (homeLine t)) × (r ≡ length (homeLine t))
+        × (r ≤ 256) ⌝ }
 {
     put(line(b"HOME cycles=", t), out)
 }
 
 pub fn put_spent(t: Totals, out: &mut [u8]) -> usize
     requires { ⌜ length (now out) ≡ 256 ⌝ }
-    ensures { λ r. ⌜ (now (out .exit) ≡ spliced (now (out .entry)) 0 (spentLine t)) × (r ≡ length (spentLine t)) × (r ≤ 256) ⌝ }
+    ensures { λ r. ⌜ (now (out .exit) ≡ spliced (now (out .entry)) 0 (spentLine t)) × (r ≡ length (spentLine t))
+        × (r ≤ 256) ⌝ }
 {
     put(line(b"SPENT cycles=", t), out)
 }

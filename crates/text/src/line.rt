@@ -44,7 +44,8 @@ fn with_number(l: Line, n: u32) -> Line
 
 pub fn with_field(l: Line, label: &[u8], n: u32) -> Line
     requires { ⌜ l .len + length (now label) + 10 ≤ 256 ⌝ }
-    ensures { λ r. ⌜ (written r ≡ written l ++ fieldText (now (label .entry)) n) × (r .len ≤ l .len + length (now (label .entry)) + 10) ⌝ }
+    ensures { λ r. ⌜ (written r ≡ written l ++ fieldText (now (label .entry)) n)
+        × (r .len ≤ l .len + length (now (label .entry)) + 10) ⌝ }
 {
     with_number(with_text(l, label), n)
 }
@@ -52,7 +53,8 @@ pub fn with_field(l: Line, label: &[u8], n: u32) -> Line
 // What was used of what is allowed.
 pub fn with_pair(l: Line, label: &[u8], used: u32, allowed: u32) -> Line
     requires { ⌜ l .len + length (now label) + 21 ≤ 256 ⌝ }
-    ensures { λ r. ⌜ (written r ≡ written l ++ pairText (now (label .entry)) used allowed) × (r .len ≤ l .len + length (now (label .entry)) + 21) ⌝ }
+    ensures { λ r. ⌜ (written r ≡ written l ++ pairText (now (label .entry)) used allowed)
+        × (r .len ≤ l .len + length (now (label .entry)) + 21) ⌝ }
 {
     let a = with_field(l, label, used);
     with_field(a, b"/", allowed)
@@ -61,7 +63,8 @@ pub fn with_pair(l: Line, label: &[u8], used: u32, allowed: u32) -> Line
 // How many bytes the line has; it stands at the beginning of the output.
 pub fn put(l: Line, out: &mut [u8]) -> usize
     requires { ⌜ (l .len ≤ 256) × (length (now out) ≡ 256) ⌝ }
-    ensures { λ r. ⌜ (now (out .exit) ≡ spliced (now (out .entry)) 0 (written l)) × (r ≡ length (written l)) × (r ≤ 256) ⌝ }
+    ensures { λ r. ⌜ (now (out .exit) ≡ spliced (now (out .entry)) 0 (written l)) × (r ≡ length (written l))
+        × (r ≤ 256) ⌝ }
 {
     let bytes = l.bytes;
     let len = l.len;

@@ -61,7 +61,11 @@ fn bytes(n: u16, a: u8, b: u8, c: u8, d: u8, e: u8) -> [u8; 14]
 // The instruction of a place, whose operand's bytes are u, v and w; `next` is the address after it.
 fn listed(place: usize, bytes: [u8; 14], u: u8, v: u8, w: u8, next: u16) -> Listing
     requires { ⌜ place < 1024 ⌝ }
-    ensures { λ r. ⌜ r ≡ record { bytes = bytes; mnemonic = mnemonicOf (actionAt place) (modeAt place); operand = operandText (modeAt place) u v w next } ⌝ }
+    ensures { λ r. ⌜ r ≡ record {
+      bytes = bytes;
+      mnemonic = mnemonicOf (actionAt place) (modeAt place);
+      operand = operandText (modeAt place) u v w next;
+    } ⌝ }
 {
     let ta = actions();
     let tm = modes();
@@ -74,7 +78,8 @@ fn listed(place: usize, bytes: [u8; 14], u: u8, v: u8, w: u8, next: u16) -> List
     }
 }
 
-// The instruction at an address, from the five bytes there on. Where there is none: the first byte alone, "-" for a mnemonic and no operand.
+// The instruction at an address, from the five bytes there on. Where there is none: the first byte alone, "-" for a
+// mnemonic and no operand.
 pub fn list(pc: u16, a: u8, b: u8, c: u8, d: u8, e: u8) -> Listing
     ensures { λ r. ⌜ r ≡ listingOf pc (five a b c d e) ⌝ }
 {

@@ -1,8 +1,10 @@
-// The name of an instruction, padded with spaces to five bytes. The names are arrays and not byte strings, which are read through a reference: thirty of these took 18 seconds to check.
+// The name of an instruction, padded with spaces to five bytes. The names are arrays and not byte strings, which are
+// read through a reference: thirty of these took 18 seconds to check.
 ghost use mathlib.Core.Path.{_≡_};
 ghost use mathlib.Core.List.{[], _∷_, _++_};
 ghost use Rattle.text.specs.Text.{padded};
-ghost use Rattle.text.specs.Mnemonic.{accumulatorName, indexName, wordName, unaryName, binaryName, inherentName, branchName, callName, mnemonicOf};
+ghost use Rattle.text.specs.Mnemonic.{accumulatorName, indexName, wordName, unaryName, binaryName, inherentName};
+ghost use Rattle.text.specs.Mnemonic.{branchName, callName, mnemonicOf};
 use opcodes::instruction::Accumulator;
 use opcodes::instruction::Action;
 use opcodes::instruction::Binary;

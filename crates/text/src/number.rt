@@ -8,7 +8,8 @@ ghost use Rattle.text.specs.Number.{glyphOf, byteHex, hexOf, decimalOf};
 // Bytes at an offset of the output; the offset after them.
 pub fn put_text(out: &mut [u8], at: usize, s: &[u8]) -> usize
     requires { ⌜ at + length (now s) ≤ length (now out) ⌝ }
-    ensures { λ r. ⌜ (now (out .exit) ≡ spliced (now (out .entry)) at (now (s .entry))) × (r ≡ at + length (now (s .entry))) ⌝ }
+    ensures { λ r. ⌜ (now (out .exit) ≡ spliced (now (out .entry)) at (now (s .entry)))
+        × (r ≡ at + length (now (s .entry))) ⌝ }
 {
     let mut i = 0;
     while i < s.len() {
@@ -70,7 +71,8 @@ fn width(n: u32) -> usize
 // Decimal digits, without leading zeros: ten at most.
 pub fn put_decimal(out: &mut [u8], at: usize, n: u32) -> usize
     requires { ⌜ at + 10 ≤ length (now out) ⌝ }
-    ensures { λ r. ⌜ (now (out .exit) ≡ spliced (now (out .entry)) at (decimalOf n)) × (r ≡ at + length (decimalOf n)) × (r ≤ at + 10) ⌝ }
+    ensures { λ r. ⌜ (now (out .exit) ≡ spliced (now (out .entry)) at (decimalOf n)) × (r ≡ at + length (decimalOf n))
+        × (r ≤ at + 10) ⌝ }
 {
     let end = at + width(n);
     let mut i = end;

@@ -57,7 +57,8 @@ fn with_word(t: [u8; 17], at: usize, n: u16) -> [u8; 17]
     r
 }
 
-// Of the three bytes after the opcode, u, v and w, a mode takes as many as it has; `next` is the address after the instruction.
+// Of the three bytes after the opcode, u, v and w, a mode takes as many as it has; `next` is the address after the
+// instruction.
 pub fn operand(m: Mode, u: u8, v: u8, w: u8, next: u16) -> [u8; 17]
     ensures { λ r. ⌜ r ≡ operandText m u v w next ⌝ }
 {

@@ -22,7 +22,8 @@ fn line(address: u16, t: Listing) -> Line
 // How many bytes the line has; it stands at the beginning of the output.
 pub fn put_place(address: u16, t: Listing, out: &mut [u8]) -> usize
     requires { ⌜ length (now out) ≡ 256 ⌝ }
-    ensures { λ r. ⌜ (now (out .exit) ≡ spliced (now (out .entry)) 0 (placeLine address t)) × (r ≡ length (placeLine address t)) × (r ≤ 256) ⌝ }
+    ensures { λ r. ⌜ (now (out .exit) ≡ spliced (now (out .entry)) 0 (placeLine address t))
+        × (r ≡ length (placeLine address t)) × (r ≤ 256) ⌝ }
 {
     put(line(address, t), out)
 }

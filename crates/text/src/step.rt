@@ -1,4 +1,5 @@
-// The line of an instruction: what it is, the registers after it, the cycles so far, and what its mark claims beside what was used.
+// The line of an instruction: what it is, the registers after it, the cycles so far, and what its mark claims beside
+// what was used.
 ghost use mathlib.Core.Path.{_≡_};
 ghost use mathlib.Core.List.{_++_};
 ghost use Prim.Native.Nat.{_+_, _≤_};
@@ -56,7 +57,8 @@ fn line(t: Traced) -> Line
 // How many bytes the line has; it stands at the beginning of the output.
 pub fn put_step(t: Traced, out: &mut [u8]) -> usize
     requires { ⌜ length (now out) ≡ 256 ⌝ }
-    ensures { λ r. ⌜ (now (out .exit) ≡ spliced (now (out .entry)) 0 (stepLine t)) × (r ≡ length (stepLine t)) × (r ≤ 256) ⌝ }
+    ensures { λ r. ⌜ (now (out .exit) ≡ spliced (now (out .entry)) 0 (stepLine t)) × (r ≡ length (stepLine t))
+        × (r ≤ 256) ⌝ }
 {
     put(line(t), out)
 }

@@ -1,4 +1,5 @@
-// A line for each address: how often it was executed, and the least and the most cycles to go that were seen there, beside the cost that its mark claims.
+// A line for each address: how often it was executed, and the least and the most cycles to go that were seen there,
+// beside the cost that its mark claims.
 ghost use mathlib.Core.Path.{_≡_};
 ghost use mathlib.Core.List.{_++_};
 ghost use Prim.Native.Nat.{_+_, _≤_, _<_};
@@ -87,7 +88,8 @@ fn line(address: u16, t: Listing, v: Visits, cost: Cycles) -> Line
 // How many bytes the line has; it stands at the beginning of the output.
 pub fn put_summary(address: u16, t: Listing, v: Visits, cost: Cycles, out: &mut [u8]) -> usize
     requires { ⌜ length (now out) ≡ 256 ⌝ }
-    ensures { λ r. ⌜ (now (out .exit) ≡ spliced (now (out .entry)) 0 (summaryLine address t v (cost .0))) × (r ≡ length (summaryLine address t v (cost .0))) × (r ≤ 256) ⌝ }
+    ensures { λ r. ⌜ (now (out .exit) ≡ spliced (now (out .entry)) 0 (summaryLine address t v (cost .0)))
+        × (r ≡ length (summaryLine address t v (cost .0))) × (r ≤ 256) ⌝ }
 {
     put(line(address, t, v, cost), out)
 }

@@ -14,7 +14,8 @@ use registers::StackBytes;
 
 fn put_accept(out: &mut [u8], entry: u16, cost: Cycles, stack: StackBytes) -> usize
     requires { ⌜ length (now out) ≡ 64 ⌝ }
-    ensures { λ r. ⌜ (now (out .exit) ≡ spliced (now (out .entry)) 0 (acceptLine entry (cost .0) (stack .0))) × (r ≡ length (acceptLine entry (cost .0) (stack .0))) ⌝ }
+    ensures { λ r. ⌜ (now (out .exit) ≡ spliced (now (out .entry)) 0 (acceptLine entry (cost .0) (stack .0)))
+        × (r ≡ length (acceptLine entry (cost .0) (stack .0))) ⌝ }
 {
     let a = put_text(out, 0, b"ACCEPT ");
     let b = put_hex(out, a, entry);
@@ -27,7 +28,8 @@ fn put_accept(out: &mut [u8], entry: u16, cost: Cycles, stack: StackBytes) -> us
 
 fn put_refuse(out: &mut [u8], x: Refusal) -> usize
     requires { ⌜ length (now out) ≡ 64 ⌝ }
-    ensures { λ r. ⌜ (now (out .exit) ≡ spliced (now (out .entry)) 0 (refuseLine (x .number) (x .place))) × (r ≡ length (refuseLine (x .number) (x .place))) ⌝ }
+    ensures { λ r. ⌜ (now (out .exit) ≡ spliced (now (out .entry)) 0 (refuseLine (x .number) (x .place)))
+        × (r ≡ length (refuseLine (x .number) (x .place))) ⌝ }
 {
     let a = put_text(out, 0, b"REFUSE ");
     let b = put_decimal(out, a, x.number as u32);
@@ -39,7 +41,8 @@ fn put_refuse(out: &mut [u8], x: Refusal) -> usize
 // How many bytes the line has; it stands at the beginning of the output.
 pub fn put_verdict(v: Verdict, out: &mut [u8]) -> usize
     requires { ⌜ length (now out) ≡ 64 ⌝ }
-    ensures { λ r. ⌜ (now (out .exit) ≡ spliced (now (out .entry)) 0 (lineOf v)) × (r ≡ length (lineOf v)) × (r ≤ 64) ⌝ }
+    ensures { λ r. ⌜ (now (out .exit) ≡ spliced (now (out .entry)) 0 (lineOf v))
+        × (r ≡ length (lineOf v)) × (r ≤ 64) ⌝ }
 {
     match v {
         Verdict::Accept(entry, cost, stack) => put_accept(out, entry, cost, stack),

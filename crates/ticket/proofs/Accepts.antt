@@ -13,7 +13,8 @@ use Rattle.ticket.proofs.ReadWritten.{read-written}
 use Rattle.ticket.proofs.WrittenRead.{written-read, checks, fits-read}
 use Rattle.ticket.proofs.Readable.{readable-checked, checked-readable}
 
-pub read-rules : (s : List ℕ) (f : Fields) → AllBytes s → readOf s ≡ read f → (bytesOf f ≡ s) × (FitsFields f) × (Readable f)
+pub read-rules : (s : List ℕ) (f : Fields) → AllBytes s → readOf s ≡ read f →
+    (bytesOf f ≡ s) × (FitsFields f) × (Readable f)
 read-rules s f a r =
     let c = checks s f r in
     (written-read s f a r, fits-read s f a r, checked-readable f (c .0) (c .1))

@@ -1,4 +1,5 @@
--- The writer's checks, of commands one after another: what one mark more does, where they leave the offset, and what the writer answers.
+-- The writer's checks, of commands one after another: what one mark more does, where they leave the offset, and what
+-- the writer answers.
 -- Assumes nothing.
 use Prim.Native.Nat.{ℕ, _+_, _≤_, _<_}
 use mathlib.Core.Path.{_≡_, refl, sym, _∙_}
@@ -22,7 +23,8 @@ use Rattle.commands.proofs.Sound.{sound-then}
 use Rattle.ticket.specs.declared.fields.Mark.{Mark}
 use Rattle.ticket.specs.declared.answer.Written.the-variants as Written
 use Rattle.ticket.specs.Fields.{Fields, blankMark, markIndex, listed}
-use Rattle.ticket.specs.Write.{headerCommands, commandsAt, markCommands, commandsOf, encodeAll, bytesOf, allThen, checkOf, writeOf, outputOf}
+use Rattle.ticket.specs.Write.{headerCommands, commandsAt, markCommands, commandsOf, encodeAll, bytesOf, allThen}
+use Rattle.ticket.specs.Write.{checkOf, writeOf, outputOf}
 use Rattle.lists.specs.inner.Splice.{spliced}
 use Rattle.ticket.proofs.Stage.{by-admission}
 use Rattle.ticket.proofs.Snoc.{commands-snoc}
@@ -36,10 +38,12 @@ pub sound-all : (a : Admitted) (cs : List Command) → SoundSoFar a → SoundSoF
 sound-all a [] s = s
 sound-all a (c ∷ cs) s = sound-all (thenOf a c) cs (sound-then a c s)
 
-pub all-listed : (a : Admitted) (ms : List Mark) (i : ℕ) → allThen a (markCommands (listed ms (i + 1))) ≡ allThen (allThen a (markCommands (listed ms i))) (commandsAt (getD ms (markIndex i) blankMark))
+pub all-listed : (a : Admitted) (ms : List Mark) (i : ℕ) → allThen a (markCommands (listed ms (i + 1)))
+    ≡ allThen (allThen a (markCommands (listed ms i))) (commandsAt (getD ms (markIndex i) blankMark))
 all-listed a ms i = rw (add-one, commands-snoc, all-append)
 
-pub all-checked : (f : Fields) → checkOf f ≡ thenOf (allThen (allThen (Next initialProgress) (headerCommands (f .header))) (markCommands (f .marks))) Command.End
+pub all-checked : (f : Fields) → checkOf f ≡ thenOf (allThen (allThen (Next initialProgress)
+    (headerCommands (f .header))) (markCommands (f .marks))) Command.End
 unfolding checkOf commandsOf
 all-checked f = all-append _ (markCommands (f .marks)) (Command.End ∷ [])
 
@@ -62,15 +66,18 @@ checked-at f p e = omega (arith, all-at (commandsOf f) initialProgress p e)
 -- ---- what the writer answers, and the output afterwards
 
 module _ (f : Fields) (out : List ℕ) where
-  pub write-refused : (r : Refusal) → checkOf f ≡ Refused r → (Written.Refused r ≡ writeOf f (length out)) × (out ≡ outputOf f out)
+  pub write-refused : (r : Refusal) → checkOf f ≡ Refused r →
+      (Written.Refused r ≡ writeOf f (length out)) × (out ≡ outputOf f out)
   unfolding writeOf outputOf
   write-refused r e = simp e (refl, refl)
 
   module _ (p : Progress) (e : checkOf f ≡ Next p) where
-    pub write-short : length out < p .at → (Written.Refused (record { number = 24; place = p .at }) ≡ writeOf f (length out)) × (out ≡ outputOf f out)
+    pub write-short : length out < p .at → (Written.Refused (record { number = 24; place = p .at })
+        ≡ writeOf f (length out)) × (out ≡ outputOf f out)
     unfolding writeOf outputOf
     write-short short = simp (e, ← checked-at f p e, lt-leb _ _ short) (refl, refl)
 
-    pub write-whole : p .at ≤ length out → (Written.Length (p .at) ≡ writeOf f (length out)) × (spliced out 0 (bytesOf f) ≡ outputOf f out)
+    pub write-whole : p .at ≤ length out → (Written.Length (p .at) ≡ writeOf f (length out))
+        × (spliced out 0 (bytesOf f) ≡ outputOf f out)
     unfolding writeOf outputOf spliced
     write-whole room = simp (e, ← checked-at f p e, le-leb _ _ room, zero-add) (refl, refl)

@@ -24,8 +24,10 @@ use Rattle.ticket.proofs.Turned.{turned}
 
 -- from progress and its marks, over some bytes, by some commands, to the fields
 pub data Course : Progress → List Mark → List ℕ → List Command → Fields → Type 0 where
-  ended : {p : Progress} {ms : List Mark} → p .stage ≡ 5 → Course p ms [] [] (record { header = p .header; marks = inFileOrder ms })
-  goes : {p : Progress} {ms : List Mark} {s : List ℕ} {c : Command} {cs : List Command} {f : Fields} → parseOf s ≡ Found c → commandCauseOf p c ≡ 0
+  ended : {p : Progress} {ms : List Mark} → p .stage ≡ 5 → Course p ms [] []
+      (record { header = p .header; marks = inFileOrder ms })
+  goes : {p : Progress} {ms : List Mark} {s : List ℕ} {c : Command} {cs : List Command} {f : Fields} →
+      parseOf s ≡ Found c → commandCauseOf p c ≡ 0
       → Course (afterOf p c) (marksWith ms c) (drop (widthOf c) s) cs f → Course p ms s (c ∷ cs) f
 
 abbrev pub Commanded : Progress → List Mark → List ℕ → Fields → Type 0
@@ -35,7 +37,8 @@ unread : {r : Refusal} {f : Fields} → refused r ≡ read f → ⊥
 unread e = let z : _≡_ {A = ℕ} 0 1 = cc in omega arith
 
 -- one turn, with what is known of the rest
-module _ (p : Progress) (ms : List Mark) (f : Fields) (rest : Rest) (known : (q : Progress) (ks : List Mark) (t : List ℕ) → rest q ks t ≡ read f → Commanded q ks t f) where
+module _ (p : Progress) (ms : List Mark) (f : Fields) (rest : Rest)
+    (known : (q : Progress) (ks : List Mark) (t : List ℕ) → rest q ks t ≡ read f → Commanded q ks t f) where
   at-end : p .stage ≡ 5 → (s : List ℕ) → endOf p ms s ≡ read f → Commanded p ms s f
   at-end e [] r =
       let same : f ≡ record { header = p .header; marks = inFileOrder ms } = cc in
@@ -54,7 +57,8 @@ module _ (p : Progress) (ms : List Mark) (f : Fields) (rest : Rest) (known : (q 
     at-turn true e r = at-end (eqb-true _ _ e) s r
     at-turn false e r = at-command _ refl r
 
-commanded : (n : ℕ) (f : Fields) (p : Progress) (ms : List Mark) (s : List ℕ) → readFrom n p ms s ≡ read f → Commanded p ms s f
+commanded : (n : ℕ) (f : Fields) (p : Progress) (ms : List Mark) (s : List ℕ) → readFrom n p ms s ≡ read f →
+    Commanded p ms s f
 unfolding readFrom
 commanded zero f p ms s r = absurd (unread r)
 commanded (suc n) f p ms s r = at-turn p ms f (readFrom n) (commanded n f) s _ refl r

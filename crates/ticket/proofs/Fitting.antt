@@ -27,7 +27,8 @@ fits-window Stack w s l = operand s (operand l no-operand)
 pub fits-entry : (a : ℕ) (l : Cycles) → a < 65536 → l .0 < 4294967296 → Fits (Command.Entry a l)
 fits-entry a l b m = operand b (operand m no-operand)
 
-pub fits-mark : (m : Mark) → m .address < 65536 → m .claim .cost .0 < 4294967296 → m .claim .depth .0 < 65536 → m .claim .need .0 < 65536 → Fits (Command.Mark (m .address) (m .claim))
+pub fits-mark : (m : Mark) → m .address < 65536 → m .claim .cost .0 < 4294967296 → m .claim .depth .0 < 65536 →
+    m .claim .need .0 < 65536 → Fits (Command.Mark (m .address) (m .claim))
 fits-mark m a c d n = operand a (operand c (operand d (operand n no-operand)))
 
 pub fits-name : (a t : ℕ) → a < 65536 → t < 18446744073709551616 → Fits (Command.Name a t)
@@ -37,7 +38,8 @@ fit-append : {cs ds : List Command} → AllFit cs → AllFit ds → AllFit (cs +
 fit-append none fits = fits
 fit-append (more fit more-fit) fits = more fit (fit-append more-fit fits)
 
-pub fit-listed : (ms : List Mark) (i : ℕ) → AllFit (markCommands (listed ms i)) → AllFit (commandsAt (getD ms (markIndex i) blankMark)) → AllFit (markCommands (listed ms (i + 1)))
+pub fit-listed : (ms : List Mark) (i : ℕ) → AllFit (markCommands (listed ms i)) →
+    AllFit (commandsAt (getD ms (markIndex i) blankMark)) → AllFit (markCommands (listed ms (i + 1)))
 fit-listed ms i fits fit = rw (add-one, commands-snoc) (fit-append fits fit)
 
 pub fit-ticket : (f : Fields) → AllFit (headerCommands (f .header)) → AllFit (markCommands (f .marks)) → FitsFields f

@@ -25,8 +25,10 @@ unfolding admitOf
 free-admitted p [] f = (p, refl)
 free-admitted p (c ∷ cs) f = rw (eq-eqb _ _ (f .0)) (free-admitted (afterOf p c) cs (f .1))
 
-module _ (p q : Progress) (c : Command) (cs : List Command) (rest : allThen (Next (afterOf p c)) cs ≡ Next q → Free (afterOf p c) cs) where
-  by-cause : (r : Refusal) (b : Bool) → eqb (commandCauseOf p c) 0 ≡ b → allThen (cond b (Next (afterOf p c)) (Refused r)) cs ≡ Next q → Free p (c ∷ cs)
+module _ (p q : Progress) (c : Command) (cs : List Command) (rest : allThen (Next (afterOf p c)) cs ≡ Next q →
+    Free (afterOf p c) cs) where
+  by-cause : (r : Refusal) (b : Bool) → eqb (commandCauseOf p c) 0 ≡ b →
+      allThen (cond b (Next (afterOf p c)) (Refused r)) cs ≡ Next q → Free p (c ∷ cs)
   by-cause r true e n = (eqb-true _ _ e, rest n)
   by-cause r false e n = absurd (not-next (sym (refused-stays r cs) ∙ n))
 

@@ -36,11 +36,14 @@ abbrev pub keptOf : Header → List Mark → List Command → Fields
 keptOf h ms [] = record { header = h; marks = inFileOrder ms }
 keptOf h ms (c ∷ cs) = keptOf (headerWith h c) (marksWith ms c) cs
 
-kept-name : (h : Header) (ms : List Mark) (a : ℕ) (k : Claim) (n : Name) (cs ds : List Command) → keptOf h (unnamed a k ∷ ms) ((nameCommands a n ++ cs) ++ ds) ≡ keptOf h (record { address = a; claim = k; name = n } ∷ ms) (cs ++ ds)
+kept-name : (h : Header) (ms : List Mark) (a : ℕ) (k : Claim) (n : Name) (cs ds : List Command) →
+    keptOf h (unnamed a k ∷ ms) ((nameCommands a n ++ cs) ++ ds)
+    ≡ keptOf h (record { address = a; claim = k; name = n } ∷ ms) (cs ++ ds)
 kept-name h ms a k Absent cs ds = refl
 kept-name h ms a k (Text t) cs ds = refl
 
-kept-marks : (h : Header) (ks ms : List Mark) → keptOf h ks (markCommands ms ++ (Command.End ∷ [])) ≡ record { header = h; marks = inFileOrder ks ++ ms }
+kept-marks : (h : Header) (ks ms : List Mark) → keptOf h ks (markCommands ms ++ (Command.End ∷ []))
+    ≡ record { header = h; marks = inFileOrder ks ++ ms }
 kept-marks h ks [] = rw append-nil
 kept-marks h ks (m ∷ ms) =
     kept-name h ks (m .address) (m .claim) (m .name) (markCommands ms) (Command.End ∷ [])

@@ -29,20 +29,26 @@ length-header h = refl
 abbrev pub marksBytes : List Mark → ℕ → List ℕ
 marksBytes ms n = encodeAll (markCommands (listed ms n))
 
-pub marks-more : (ms : List Mark) (i : ℕ) {j : ℕ} → j ≡ markIndex i → marksBytes ms (suc i) ≡ marksBytes ms i ++ encodeAll (commandsAt (getD ms j blankMark))
-marks-more ms i e = rw (e, commands-snoc (listed ms i)) (encode-append (markCommands (listed ms i)) (commandsAt (getD ms (markIndex i) blankMark)))
+pub marks-more : (ms : List Mark) (i : ℕ) {j : ℕ} → j ≡ markIndex i →
+    marksBytes ms (suc i) ≡ marksBytes ms i ++ encodeAll (commandsAt (getD ms j blankMark))
+marks-more ms i e =
+    rw (e, commands-snoc (listed ms i)) (encode-append (markCommands (listed ms i))
+    (commandsAt (getD ms (markIndex i) blankMark)))
 
 marks-longer : (ms : List Mark) (n k : ℕ) → length (marksBytes ms n) ≤ length (marksBytes ms (n + k))
 marks-longer ms n zero = rw add-zero (omega arith)
-marks-longer ms n (suc k) = rw (add-suc n k, marks-more ms (n + k) refl, length-append) (omega (arith, marks-longer ms n k))
+marks-longer ms n (suc k) =
+    rw (add-suc n k, marks-more ms (n + k) refl, length-append) (omega (arith, marks-longer ms n k))
 
 module _ (t : Ticket) where
-  pub ticket-parts : bytesOf (fieldsOf t) ≡ (encodeAll (headerCommands (t .header)) ++ marksBytes (t .marks) (t .count)) ++ encodeOf Command.End
+  pub ticket-parts : bytesOf (fieldsOf t) ≡ (encodeAll (headerCommands (t .header)) ++ marksBytes (t .marks) (t .count))
+      ++ encodeOf Command.End
   unfolding bytesOf commandsOf fieldsOf
   ticket-parts =
       let header = encodeAll (headerCommands (t .header)) in
       let cs = markCommands (listed (t .marks) (t .count)) in
-      let tail : encodeAll (cs ++ (Command.End ∷ [])) ≡ encodeAll cs ++ encodeOf Command.End = encode-append cs (Command.End ∷ []) ∙ rw append-nil in
+      let tail : encodeAll (cs ++ (Command.End ∷ [])) ≡ encodeAll cs ++ encodeOf Command.End =
+      encode-append cs (Command.End ∷ []) ∙ rw append-nil in
       encode-append (headerCommands (t .header)) (cs ++ (Command.End ∷ []))
       ∙ (ap (λ (s : List ℕ). header ++ s) tail ∙ sym (append-assoc header (encodeAll cs) (encodeOf Command.End)))
 
@@ -52,8 +58,23 @@ module _ (t : Ticket) where
       let longer = rw (add-sub-of-le h) at (marks-longer (t .marks) i (t .count - i)) in
       let header = encodeAll (headerCommands (t .header)) in
       let marks = marksBytes (t .marks) (t .count) in
-      rw ticket-parts (omega (arith, length-append (header ++ marks) (encodeOf Command.End), length-append header marks, length-header (t .header), length-encode Command.End, width-positive Command.End))
+      rw ticket-parts (omega (
+        arith,
+        length-append (header ++ marks) (encodeOf Command.End),
+        length-append header marks,
+        length-header (t .header),
+        length-encode Command.End,
+        width-positive Command.End,
+      ))
 
   -- and for one mark more, if there is one
-  pub mark-room : (i : ℕ) {j : ℕ} → j ≡ markIndex i → i < t .count → 22 + length (marksBytes (t .marks) i) + length (encodeAll (commandsAt (getD (t .marks) j blankMark))) ≤ length (bytesOf (fieldsOf t))
-  mark-room i {j} e h = omega (arith, end-room (suc i) h, ap length (marks-more (t .marks) i e), length-append (marksBytes (t .marks) i) (encodeAll (commandsAt (getD (t .marks) j blankMark))))
+  pub mark-room : (i : ℕ) {j : ℕ} → j ≡ markIndex i → i < t .count →
+      22 + length (marksBytes (t .marks) i) + length (encodeAll (commandsAt (getD (t .marks) j blankMark)))
+      ≤ length (bytesOf (fieldsOf t))
+  mark-room i {j} e h =
+      omega (
+        arith,
+        end-room (suc i) h,
+        ap length (marks-more (t .marks) i e),
+        length-append (marksBytes (t .marks) i) (encodeAll (commandsAt (getD (t .marks) j blankMark))),
+      )

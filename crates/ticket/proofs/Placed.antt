@@ -11,5 +11,6 @@ use Rattle.lists.specs.inner.Splice.{spliced}
 use Rattle.lists.proofs.Splice.{Placed, placed-next}
 
 module _ {old : List ℕ} {at : ℕ} {a x y : List ℕ} {n m : ℕ} (p : Placed old at a x n) (room : m ≤ length old) where
-  pub placed-command : (c : Command) → (y ≡ spliced x n (encodeOf c)) × (m ≡ n + widthOf c) → Placed old at (a ++ encodeOf c) y m
+  pub placed-command : (c : Command) → (y ≡ spliced x n (encodeOf c)) × (m ≡ n + widthOf c) →
+      Placed old at (a ++ encodeOf c) y m
   placed-command c e = placed-next p room (encodeOf c) (e .0, rw length-encode (e .1))

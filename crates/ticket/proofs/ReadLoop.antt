@@ -1,4 +1,5 @@
--- Where the reading of some bytes stands: the marks in the array, the commands that led there, and the turns that are left.
+-- Where the reading of some bytes stands: the marks in the array, the commands that led there, and the turns that are
+-- left.
 -- Assumes nothing.
 use Prim.Native.Nat.{ℕ, zero, suc, _+_, _-_, _≤_, _<_}
 use native.Mathlib.Numerals.{unary-clauses}
@@ -50,7 +51,8 @@ reached-start s =
       held = refl;
     }
 
-one-turn : (n : ℕ) (p : Progress) (ms : List Mark) (s : List ℕ) → 0 < n → readFrom n p ms s ≡ ifEnded (eqb (p .stage) 5) p ms s (readFrom (n - 1))
+one-turn : (n : ℕ) (p : Progress) (ms : List Mark) (s : List ℕ) → 0 < n →
+    readFrom n p ms s ≡ ifEnded (eqb (p .stage) 5) p ms s (readFrom (n - 1))
 unfolding readFrom
 one-turn zero p ms s l = absurd (omega arith)
 one-turn (suc n) p ms s l = simp unary-clauses
@@ -61,7 +63,8 @@ module _ (s : List ℕ) (array : List Mark) (p : Progress) (h : ReadState s arra
 
   -- before the end: one turn more
   module _ (go : p .stage ≡ 5 → ⊥) where
-    read-on : readOf s ≡ readOnward (nextCommandOf (drop (p .at) s) p) (h .marks) (drop (p .at) s) (readFrom (h .left - 1))
+    read-on : readOf s ≡ readOnward (nextCommandOf (drop (p .at) s) p) (h .marks) (drop (p .at) s)
+        (readFrom (h .left - 1))
     read-on = simp (ne-eqb (p .stage) 5 go) at turn
 
     pub reading-refused : (r : Refusal) → nextCommandOf (drop (p .at) s) p ≡ Turn.Refused r → readOf s ≡ refused r
@@ -78,10 +81,13 @@ module _ (s : List ℕ) (array : List Mark) (p : Progress) (h : ReadState s arra
             width-positive c,
           )
 
-      reached-after : (d : Mark) → commandCauseOf p c ≡ 0 → nextCommandOf (drop (p .at) s) p ≡ Turn.Next (afterOf p c) c → ReadState s (set array (afterOf p c .count - 1) (enteredOf (getD array (afterOf p c .count - 1) d) c)) (afterOf p c)
+      reached-after : (d : Mark) → commandCauseOf p c ≡ 0 → nextCommandOf (drop (p .at) s) p
+          ≡ Turn.Next (afterOf p c) c → ReadState s (set array (afterOf p c .count - 1)
+          (enteredOf (getD array (afterOf p c .count - 1) d) c)) (afterOf p c)
       reached-after d free e =
           let next = consistent-next p (h .marks) (h .kept) c free in
-          let on : drop (widthOf c) (drop (p .at) s) ≡ drop (afterOf p c .at) s = rw (after-at p c) (drop-drop (widthOf c) (p .at) s) in
+          let on : drop (widthOf c) (drop (p .at) s) ≡ drop (afterOf p c .at) s =
+          rw (after-at p c) (drop-drop (widthOf c) (p .at) s) in
           record {
             marks = marksWith (h .marks) c;
             left = h .left - 1;
@@ -89,11 +95,14 @@ module _ (s : List ℕ) (array : List Mark) (p : Progress) (h : ReadState s arra
             inside = moved .1;
             enough = omega (arith, moved);
             rest = rw (e, on) at read-on;
-            held = rw (h .held) (entered 4096 d p (h .marks) (h .kept) c (allowed p c free .ordered) (bounds (next .sound) .0));
+            held =
+                rw (h .held) (entered 4096 d p (h .marks) (h .kept) c (allowed p c free .ordered)
+                (bounds (next .sound) .0));
           }
 
     module _ (q : Progress) (c : Command) (e : nextCommandOf (drop (p .at) s) p ≡ Turn.Next q c) where
-      pub reached-next : (d : Mark) → ReadState s (set array (q .count - 1) (enteredOf (getD array (q .count - 1) d) c)) q
+      pub reached-next : (d : Mark) → ReadState s (set array (q .count - 1) (enteredOf (getD array (q .count - 1) d) c))
+          q
       reached-next d =
           let t = turned (drop (p .at) s) p q c e in
           rw (t .next) (reached-after c (t .found) d (t .free) (rw (t .next) at e))
@@ -112,6 +121,9 @@ module _ (s : List ℕ) (array : List Mark) (p : Progress) (h : ReadState s arra
     pub reading-long : p .at < length s → readOf s ≡ refused (refusal 8 (p .at))
     reading-long l = rw (drop-cons s (p .at) 0) at ended
 
-    pub reading-done : length s ≤ p .at → record { answer = Answer.Read; ticket = record { header = p .header; count = p .count; marks = array } } ≡ readingOf (readOf s)
+    pub reading-done : length s ≤ p .at → record {
+      answer = Answer.Read;
+      ticket = record { header = p .header; count = p .count; marks = array };
+    } ≡ readingOf (readOf s)
     unfolding ticketOf filled
     reading-done l = rw (rw (drop-of-length-le s l) at ended, h .held, length-ordered, h .kept .counted)

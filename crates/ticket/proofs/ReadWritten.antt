@@ -1,4 +1,5 @@
--- Reading a ticket's bytes gives its fields, or the refusal that the writer's checks give, with the same number and place.
+-- Reading a ticket's bytes gives its fields, or the refusal that the writer's checks give, with the same number and
+-- place.
 -- Assumes nothing.
 use Prim.Native.Nat.{ℕ, zero, suc, _<_}
 use mathlib.Core.Path.{_≡_, refl, ap, _∙_}
@@ -32,7 +33,8 @@ data Ended : Bool → List Command → Type 0 where
   after : Ended true []
   before : {c : Command} {cs : List Command} → Ended (ends c) cs → Ended false (c ∷ cs)
 
-ended-name : (a : ℕ) (n : Name) (cs ds : List Command) → Ended false (cs ++ ds) → Ended false ((nameCommands a n ++ cs) ++ ds)
+ended-name : (a : ℕ) (n : Name) (cs ds : List Command) → Ended false (cs ++ ds) →
+    Ended false ((nameCommands a n ++ cs) ++ ds)
 ended-name a Absent cs ds e = e
 ended-name a (Text t) cs ds e = before e
 
@@ -53,12 +55,15 @@ shorter : (c : Command) (s : List ℕ) (n : ℕ) → length (encodeOf c ++ s) < 
 shorter c s n l = omega (arith, length-append (encodeOf c) s, length-encode c, width-positive c)
 
 -- every command has a byte or more, so more turns than bytes are enough
-read-all : {b : Bool} {cs : List Command} (n : ℕ) (p : Progress) (ms : List Mark) → Ended b cs → AllFit cs → eqb (p .stage) 5 ≡ b → length (encodeAll cs) < n → readFrom n p ms (encodeAll cs) ≡ answered (allThen (Next p) cs) (keptOf (p .header) ms cs)
+read-all : {b : Bool} {cs : List Command} (n : ℕ) (p : Progress) (ms : List Mark) → Ended b cs → AllFit cs →
+    eqb (p .stage) 5 ≡ b → length (encodeAll cs) < n → readFrom n p ms (encodeAll cs)
+    ≡ answered (allThen (Next p) cs) (keptOf (p .header) ms cs)
 unfolding readFrom
 read-all zero p ms d fits e l = absurd (omega arith)
 read-all (suc n) p ms after none e l = rw e
 read-all (suc n) p ms (before {c} {cs} d) (more fit fits) e l =
-    step n p ms c (encodeAll cs) e fit (λ a. answered (allThen a cs) (keptOf (headerWith (p .header) c) (marksWith ms c) cs))
+    step n p ms c (encodeAll cs) e fit (λ a. answered (allThen a cs)
+    (keptOf (headerWith (p .header) c) (marksWith ms c) cs))
     (λ r. rw refused-stays) (λ h. rw (← header-after p c) (read-all n _ _ d fits (stage-after p c h) (shorter c _ n l)))
 
 pub read-written : (f : Fields) → FitsFields f → readOf (bytesOf f) ≡ answered (checkOf f) f

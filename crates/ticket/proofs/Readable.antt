@@ -24,13 +24,16 @@ use Rattle.ticket.specs.declared.fields.Mark.{Mark}
 use Rattle.ticket.specs.Fields.{Fields}
 use Rattle.ticket.specs.Write.{headerCommands, nameCommands, markCommands, commandsOf, checkOf}
 use Rattle.commands.specs.Every.{Every}
-use Rattle.ticket.specs.Rules.{Between, In, HeaderRules, ClaimRules, NameRule, absent, text, MarkRules, Rising, Readable}
-use Rattle.ticket.proofs.Says.{true-says, leb-says, ltb-says, eqb-says, positive-says, after-says, printable-says, apart-says}
+use Rattle.ticket.specs.Rules.{Between, In, HeaderRules, ClaimRules, NameRule, absent, text, MarkRules, Rising}
+use Rattle.ticket.specs.Rules.{Readable}
+use Rattle.ticket.proofs.Says.{true-says, leb-says, ltb-says, eqb-says, positive-says, after-says}
+use Rattle.ticket.proofs.Says.{printable-says, apart-says}
 use Rattle.ticket.proofs.Free.{Free, free-admitted, admitted-free}
 
 ruleset tests = (true-says, and-eq-true-iff, leb-says, ltb-says, eqb-says, positive-says, after-says, apart-says)
 
-cause-says : (p : Progress) (c : Command) → (commandCauseOf p c ≡ 0) ↔ ((inOrder p c ≡ true) × (rangesHold c ≡ true) × (edgesHold c ≡ true) × (separate (p .header) c ≡ true) × (inside (p .header) c ≡ true))
+cause-says : (p : Progress) (c : Command) → (commandCauseOf p c ≡ 0) ↔ ((inOrder p c ≡ true) × (rangesHold c ≡ true)
+    × (edgesHold c ≡ true) × (separate (p .header) c ≡ true) × (inside (p .header) c ≡ true))
 cause-says p c = (
   λ e. let a = allowed p c e in (a .ordered, a .ranged, a .edged, a .separated, a .placed),
   λ t. allow p c (record { ordered = t .0; ranged = t .1; edged = t .2; separated = t .3; placed = t .4 }),
@@ -42,21 +45,25 @@ cause-says p c = (
 abbrev headed : Header → Progress
 headed h = record { at = 22; stage = 4; header = h; count = 0; last = 0; nameable = false }
 
-header-says : (h : Header) (cs : List Command) → Free initialProgress (headerCommands h ++ cs) ↔ (HeaderRules h × Free (headed h) cs)
+header-says : (h : Header) (cs : List Command) → Free initialProgress (headerCommands h ++ cs) ↔ (HeaderRules h
+    × Free (headed h) cs)
 unfolding afterOf widthOf rangesHold
 header-says h cs = simp (cause-says, tests) (λ f. (search arith, f .1 .1 .1 .1), λ r. search arith)
 
 -- ---- one mark and its name, after a header and perhaps other marks
 
 module _ (p : Progress) (e : p .stage ≡ 4) where
-  mark-says : (a : ℕ) (k : Claim) → (commandCauseOf p (Command.Mark a k) ≡ 0) ↔ ((1 ≤ p .count → p .last < a) × ClaimRules k × In (p .header .code) a)
+  mark-says : (a : ℕ) (k : Claim) → (commandCauseOf p (Command.Mark a k) ≡ 0) ↔ ((1 ≤ p .count → p .last < a)
+      × ClaimRules k × In (p .header .code) a)
   unfolding rangesHold
   mark-says a k = simp (cause-says, tests) (λ t. search arith, λ r. search arith)
 
-  text-says : (n a t : ℕ) → (commandCauseOf (markedOf p n a) (Command.Name a t) ≡ 0) ↔ Every (Between 0x20 0x7e) (digits 8 t)
+  text-says : (n a t : ℕ) → (commandCauseOf (markedOf p n a) (Command.Name a t) ≡ 0) ↔ Every (Between 0x20 0x7e)
+      (digits 8 t)
   unfolding rangesHold
   text-says n a t = (
-    λ c. printable-says (digits 8 t) .0 (and-eq-true-iff _ true .0 (allowed (markedOf p n a) (Command.Name a t) c .ranged) .0),
+    λ c. printable-says (digits 8 t) .0 (and-eq-true-iff _ true .0
+        (allowed (markedOf p n a) (Command.Name a t) c .ranged) .0),
     λ r.
         allow (markedOf p n a) (Command.Name a t)
         (record {
@@ -76,8 +83,10 @@ text-of : {t : ℕ} → NameRule (Text t) → Every (Between 0x20 0x7e) (digits 
 text-of (text r) = r
 
 -- what comes after a mark and its name depends on the header, how many marks there are and the last address
-module _ (p : Progress) (e : p .stage ≡ 4) (a : ℕ) (cs ds : List Command) (R : Header → ℕ → ℕ → Type 0) (rest : (q : Progress) → q .stage ≡ 4 → Free q (cs ++ ds) ↔ R (q .header) (q .count) (q .last)) where
-  name-says : (w : ℕ) (n : Name) → Free (markedOf p w a) ((nameCommands a n ++ cs) ++ ds) ↔ (NameRule n × R (p .header) (p .count + 1) a)
+module _ (p : Progress) (e : p .stage ≡ 4) (a : ℕ) (cs ds : List Command) (R : Header → ℕ → ℕ →
+    Type 0) (rest : (q : Progress) → q .stage ≡ 4 → Free q (cs ++ ds) ↔ R (q .header) (q .count) (q .last)) where
+  name-says : (w : ℕ) (n : Name) → Free (markedOf p w a) ((nameCommands a n ++ cs) ++ ds) ↔ (NameRule n
+      × R (p .header) (p .count + 1) a)
   unfolding afterOf
   name-says w Absent = (λ f. (absent, rest _ e .0 f), λ r. rest _ e .1 (r .1))
   name-says w (Text t) = (
@@ -103,12 +112,14 @@ rising-says m (n ∷ ms) = (rising-more, λ r. Rising.more (r .0) (r .1))
 abbrev Marked : List Mark → Header → ℕ → ℕ → Type 0
 Marked ms h n l = Every (MarkRules h) ms × (1 ≤ n → Under l ms) × Rising ms
 
-marks-says : (ms : List Mark) (p : Progress) → p .stage ≡ 4 → Free p (markCommands ms ++ (Command.End ∷ [])) ↔ Marked ms (p .header) (p .count) (p .last)
+marks-says : (ms : List Mark) (p : Progress) → p .stage ≡ 4 →
+    Free p (markCommands ms ++ (Command.End ∷ [])) ↔ Marked ms (p .header) (p .count) (p .last)
 unfolding afterOf
 marks-says [] p e = (λ f. (Every.none, λ o. tt, Rising.none), λ r. (end-free p e, tt))
 marks-says (m ∷ ms) p e =
     let mark = mark-says p e (m .address) (m .claim) in
-    let name = name-says p e (m .address) (markCommands ms) (Command.End ∷ []) (Marked ms) (marks-says ms) _ (m .name) in
+    let name =
+    name-says p e (m .address) (markCommands ms) (Command.End ∷ []) (Marked ms) (marks-says ms) _ (m .name) in
     let rise = rising-says m ms in (
       λ f.
           let k = mark .0 (f .0) in

@@ -7,7 +7,8 @@ use mathlib.Core.Bool.{Bool, true, false, not, _||_, true≢false, false≢true,
 use mathlib.Core.List.{List, [], _∷_}
 use native.Mathlib.Omega.{arith}
 use lib.Dec.{eqb, ltb, leb}
-use borrow.Author.Tests.{ltb-true, ltb-false, leb-true, leb-false, not-true, eqb-true, eqb-false, lt-ltb, le-leb, lt-leb, eq-eqb, ne-eqb}
+use borrow.Author.Tests.{ltb-true, ltb-false, leb-true, leb-false, not-true, eqb-true, eqb-false, lt-ltb, le-leb}
+use borrow.Author.Tests.{lt-leb, eq-eqb, ne-eqb}
 use Rattle.commands.specs.declared.header.Window.{Window}
 use Rattle.commands.specs.Rows.{printable}
 use Rattle.commands.specs.Cause.{apart}
@@ -68,6 +69,11 @@ shared v w e =
 
 pub apart-says : (v w : Window) → (apart v w ≡ true) ↔ Apart v w
 apart-says v w = (
-  λ e a i j. false≢true (rw (ne-eqb (v .length) 0 (omega arith), ne-eqb (w .length) 0 (omega arith), lt-leb (pastOf v) (w .start) (omega arith), lt-leb (pastOf w) (v .start) (omega arith)) at e),
+  λ e a i j. false≢true (rw (
+    ne-eqb (v .length) 0 (omega arith),
+    ne-eqb (w .length) 0 (omega arith),
+    lt-leb (pastOf v) (w .start) (omega arith),
+    lt-leb (pastOf w) (v .start) (omega arith),
+  ) at e),
   λ h. not-eq-not .0 (λ e. h _ (shared v w e .0) (shared v w e .1)),
 )

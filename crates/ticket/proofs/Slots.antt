@@ -53,7 +53,8 @@ module _ (n : ℕ) (d : Mark) (p : Progress) where
       let i : p .count - 1 ≡ length (inFileOrder ms) = omega (arith, length-ordered ms) in
       rw (i, get-last n (inFileOrder ms) m d) (set-last n (inFileOrder ms) m (named m t))
 
-  pub entered : (ms : List Mark) → Consistent p ms → (c : Command) → inOrder p c ≡ true → afterOf p c .count ≤ n → Entered ms c
+  pub entered : (ms : List Mark) → Consistent p ms → (c : Command) → inOrder p c ≡ true → afterOf p c .count ≤ n →
+      Entered ms c
   unfolding afterOf
   entered ms k (Command.Window x w) o l = set-getD (filled n (inFileOrder ms)) _ d
   entered ms k (Command.Entry a x) o l = set-getD (filled n (inFileOrder ms)) _ d

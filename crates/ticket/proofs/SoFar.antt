@@ -74,7 +74,8 @@ module _ (p : Progress) where
       let own : a ≡ m .address = omega arith in
       simp (e, own, k .latest .1 can, commands-snoc, append-assoc, append-nil)
 
-  said-step : (ms : List Mark) → Consistent p ms → (c : Command) → inOrder p c ≡ true → soFar (afterOf p c) (marksWith ms c) ≡ soFar p ms ++ (c ∷ [])
+  said-step : (ms : List Mark) → Consistent p ms → (c : Command) → inOrder p c ≡ true →
+      soFar (afterOf p c) (marksWith ms c) ≡ soFar p ms ++ (c ∷ [])
   unfolding afterOf
   said-step ms k (Command.Window d w) o = said-window ms k d w (widthOf (Command.Window d w)) (eqb-true _ _ o)
   said-step ms k (Command.Entry a l) o =
@@ -91,7 +92,8 @@ module _ (p : Progress) where
       let e = eqb-true (p .stage) 4 o in
       simp (e, append-nil)
 
-  pub said-next : (ms : List Mark) → Consistent p ms → (c : Command) → commandCauseOf p c ≡ 0 → soFar (afterOf p c) (marksWith ms c) ≡ soFar p ms ++ (c ∷ [])
+  pub said-next : (ms : List Mark) → Consistent p ms → (c : Command) → commandCauseOf p c ≡ 0 →
+      soFar (afterOf p c) (marksWith ms c) ≡ soFar p ms ++ (c ∷ [])
   said-next ms k c e = said-step ms k c (allowed p c e .ordered)
 
 -- ---- one command more keeps it
@@ -100,18 +102,21 @@ no-name : {n : Name} → false ≡ true → n ≡ Absent
 no-name e = cc
 
 module _ (p : Progress) where
-  kept-staged : (ms : List Mark) → Consistent p ms → (w : ℕ) (h : Header) → Sound (stagedOf p w h) → Consistent (stagedOf p w h) ms
+  kept-staged : (ms : List Mark) → Consistent p ms → (w : ℕ) (h : Header) → Sound (stagedOf p w h) →
+      Consistent (stagedOf p w h) ms
   kept-staged [] k w h s = record { sound = s; counted = k .counted; latest = tt }
   kept-staged (m ∷ ms) k w h s =
       record { sound = s; counted = k .counted; latest = (k .latest .0, no-name) }
 
   -- a name leaves how many marks there are, and their addresses
-  kept-name : (ms : List Mark) → Consistent p ms → (a t n : ℕ) → Sound (namedOf p n) → Consistent (namedOf p n) (marksWith ms (Command.Name a t))
+  kept-name : (ms : List Mark) → Consistent p ms → (a t n : ℕ) → Sound (namedOf p n) →
+      Consistent (namedOf p n) (marksWith ms (Command.Name a t))
   kept-name [] k a t n s = record { sound = s; counted = k .counted; latest = tt }
   kept-name (m ∷ ms) k a t n s =
       record { sound = s; counted = k .counted; latest = (k .latest .0, no-name) }
 
-  kept-step : (ms : List Mark) → Consistent p ms → (c : Command) → Sound (afterOf p c) → Consistent (afterOf p c) (marksWith ms c)
+  kept-step : (ms : List Mark) → Consistent p ms → (c : Command) → Sound (afterOf p c) →
+      Consistent (afterOf p c) (marksWith ms c)
   unfolding afterOf
   kept-step ms k (Command.Window d w) s = kept-staged ms k _ _ s
   kept-step ms k (Command.Entry a l) s = kept-staged ms k _ _ s
@@ -124,7 +129,8 @@ module _ (p : Progress) where
   kept-step ms k (Command.Name a t) s = kept-name ms k a t _ s
   kept-step ms k Command.End s = kept-staged ms k _ _ s
 
-  pub consistent-next : (ms : List Mark) → Consistent p ms → (c : Command) → commandCauseOf p c ≡ 0 → Consistent (afterOf p c) (marksWith ms c)
+  pub consistent-next : (ms : List Mark) → Consistent p ms → (c : Command) → commandCauseOf p c ≡ 0 →
+      Consistent (afterOf p c) (marksWith ms c)
   consistent-next ms k c e = kept-step ms k c (sound-after p c (k .sound) e)
 
 -- ---- the marks in file order

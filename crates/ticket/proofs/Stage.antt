@@ -17,7 +17,8 @@ use Rattle.commands.specs.Admit.{admitOf}
 use Rattle.commands.proofs.Causes.{allowed}
 
 -- what holds of every refusal, and of what a command in order leaves, holds of what the command's admission gives
-module _ (p : Progress) (c : Command) (P : Admitted → Type 0) (refuses : (r : Refusal) → P (Refused r)) (goes : inOrder p c ≡ true → P (Next (afterOf p c))) where
+module _ (p : Progress) (c : Command) (P : Admitted → Type 0) (refuses : (r : Refusal) →
+    P (Refused r)) (goes : inOrder p c ≡ true → P (Next (afterOf p c))) where
   by-cause : (r : Refusal) (b : Bool) → eqb (commandCauseOf p c) 0 ≡ b → P (cond b (Next (afterOf p c)) (Refused r))
   by-cause r true e = goes (allowed p c (eqb-true _ _ e) .ordered)
   by-cause r false e = refuses r

@@ -24,11 +24,18 @@ use Rattle.ticket.proofs.Stage.{by-admission}
 
 module _ (n : ℕ) (p : Progress) (ms : List Mark) (c : Command) (s : List ℕ) where
   -- by what the command's admission gives
-  turn : eqb (p .stage) 5 ≡ false → Fits c → readFrom (suc n) p ms (encodeOf c ++ s) ≡ readOnward (admittedAs (admitOf p c) c) ms (encodeOf c ++ s) (λ q ks t. readFrom n q ks t)
+  turn : eqb (p .stage) 5 ≡ false → Fits c → readFrom (suc n) p ms (encodeOf c ++ s)
+      ≡ readOnward (admittedAs (admitOf p c) c) ms (encodeOf c ++ s) (λ q ks t. readFrom n q ks t)
   unfolding readFrom nextCommandOf
   turn e fits = simp (e, parse-encode c s fits)
 
-  -- to show that the reading answers k of the admission: k of a refusal is that refusal, and what is left is read as k says
-  pub step : eqb (p .stage) 5 ≡ false → Fits c → (k : Admitted → Outcome) → ((r : Refusal) → refused r ≡ k (Refused r)) → (inOrder p c ≡ true → readFrom n (afterOf p c) (marksWith ms c) s ≡ k (Next (afterOf p c))) → readFrom (suc n) p ms (encodeOf c ++ s) ≡ k (admitOf p c)
+  -- to show that the reading answers k of the admission: k of a refusal is that refusal, and what is left is read as k
+  -- says
+  pub step : eqb (p .stage) 5 ≡ false → Fits c → (k : Admitted → Outcome) →
+      ((r : Refusal) → refused r ≡ k (Refused r)) → (inOrder p c ≡ true →
+      readFrom n (afterOf p c) (marksWith ms c) s ≡ k (Next (afterOf p c))) →
+      readFrom (suc n) p ms (encodeOf c ++ s) ≡ k (admitOf p c)
   step e fits k stops goes =
-      rw (turn e fits) (by-admission p c (λ a. readOnward (admittedAs a c) ms (encodeOf c ++ s) (λ q ks t. readFrom n q ks t) ≡ k a) stops (λ h. rw (drop-at (encodeOf c) s (widthOf c) (length-encode c)) (goes h)))
+      rw (turn e fits) (by-admission p c (λ a. readOnward (admittedAs a c) ms (encodeOf c ++ s)
+      (λ q ks t. readFrom n q ks t) ≡ k a) stops (λ h. rw (drop-at (encodeOf c) s (widthOf c) (length-encode c))
+      (goes h)))

@@ -30,11 +30,13 @@ use Rattle.ticket.proofs.Free.{Free, free-admitted}
 use Rattle.ticket.proofs.Course.{Course, course}
 use Rattle.ticket.proofs.Course.Course.{ended, goes}
 
-encoded : {p : Progress} {ms : List Mark} {s : List ℕ} {cs : List Command} {f : Fields} → Course p ms s cs f → AllBytes s → encodeAll cs ≡ s
+encoded : {p : Progress} {ms : List Mark} {s : List ℕ} {cs : List Command} {f : Fields} → Course p ms s cs f →
+    AllBytes s → encodeAll cs ≡ s
 encoded (ended e) a = refl
 encoded (goes {s} {c} d e r) a = rw (encoded r (bytes-drop (widthOf c) a), encode-parse s c a d)
 
-fit : {p : Progress} {ms : List Mark} {s : List ℕ} {cs : List Command} {f : Fields} → Course p ms s cs f → AllBytes s → AllFit cs
+fit : {p : Progress} {ms : List Mark} {s : List ℕ} {cs : List Command} {f : Fields} → Course p ms s cs f → AllBytes s →
+    AllFit cs
 fit (ended e) a = none
 fit (goes {s} {c} d e r) a = more (fits-parsed s c a d) (fit r (bytes-drop (widthOf c) a))
 
@@ -42,13 +44,15 @@ free : {p : Progress} {ms : List Mark} {s : List ℕ} {cs : List Command} {f : F
 free (ended e) = tt
 free (goes d e r) = (e, free r)
 
-said : {p : Progress} {ms : List Mark} {s : List ℕ} {cs : List Command} {f : Fields} → Course p ms s cs f → Consistent p ms → soFar p ms ++ cs ≡ commandsOf f
+said : {p : Progress} {ms : List Mark} {s : List ℕ} {cs : List Command} {f : Fields} → Course p ms s cs f →
+    Consistent p ms → soFar p ms ++ cs ≡ commandsOf f
 unfolding commandsOf
 said (ended e) k = simp (e, append-nil)
 said (goes {p} {ms} {c} {cs} d e r) k =
     sym (append-snoc (soFar p ms) c cs) ∙ rw (← said-next p ms k c e) (said r (consistent-next p ms k c e))
 
-few-marks : {p : Progress} {ms : List Mark} {s : List ℕ} {cs : List Command} {f : Fields} → Course p ms s cs f → Consistent p ms → length (f .marks) ≤ 4096
+few-marks : {p : Progress} {ms : List Mark} {s : List ℕ} {cs : List Command} {f : Fields} → Course p ms s cs f →
+    Consistent p ms → length (f .marks) ≤ 4096
 few-marks (ended e) k = rw length-ordered (omega (arith, k .counted, bounds (k .sound)))
 few-marks (goes {p} {ms} {c} d e r) k = few-marks r (consistent-next p ms k c e)
 

@@ -1,4 +1,5 @@
--- The fields of a ticket as a header and a list of marks, and as the code's array holds them (document 01, "The ticket").
+-- The fields of a ticket as a header and a list of marks, and as the code's array holds them (document 01, "The
+-- ticket").
 -- Assumes nothing.
 use Prim.Native.Nat.{ℕ, zero, suc, _-_}
 use mathlib.Core.Bool.{cond}
@@ -79,8 +80,8 @@ abbrev pub readingOf : Outcome → Reading
 readingOf (read f) = record { answer = Answer.Read; ticket = ticketOf f }
 readingOf (refused r) = record { answer = Answer.Refused r; ticket = ticketOf noFields }
 
--- Where entry i of the marks stands. Document 01 leaves a count above 4,096 free: past the array's end its last entry stands again, so that the
--- writer refuses the 4,097th mark with 3, as one that does not rise.
+-- Where entry i of the marks stands. Document 01 leaves a count above 4,096 free: past the array's end its last entry
+-- stands again, so that the writer refuses the 4,097th mark with 3, as one that does not rise.
 abbrev pub markIndex : ℕ → ℕ
 markIndex i = cond (ltb i 4096) i 4095
 

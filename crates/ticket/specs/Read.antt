@@ -1,5 +1,5 @@
--- The reading of bytes: commands in file order, of each the causes in document 01's order; the first failure is the answer ("Where a ticket stops",
--- reading).
+-- The reading of bytes: commands in file order, of each the causes in document 01's order; the first failure is the
+-- answer ("Where a ticket stops", reading).
 -- Assumes nothing.
 use Prim.Native.Nat.{ℕ, zero, suc}
 use mathlib.Core.Bool.{Bool, true, false}

@@ -1,4 +1,5 @@
--- What must hold of a ticket's fields for it to be read, stated without order or computation (document 01, "The ticket", and causes 3 to 7).
+-- What must hold of a ticket's fields for it to be read, stated without order or computation (document 01, "The
+-- ticket", and causes 3 to 7).
 -- Assumes nothing.
 use Prim.Native.Nat.{ℕ, _+_, _≤_, _<_}
 use mathlib.Core.Path.{_≡_}

@@ -1,5 +1,5 @@
-// The ticket: read from bytes and written to bytes (document 01, "The ticket"). `read` and `write` are the interface: they take any bytes, any
-// ticket and any room.
+// The ticket: read from bytes and written to bytes (document 01, "The ticket"). `read` and `write` are the interface:
+// they take any bytes, any ticket and any room.
 ghost use mathlib.Core.Path.{_≡_};
 ghost use lib.ListN.{length};
 ghost use Rattle.ticket.specs.Read.{readOf};
@@ -61,10 +61,13 @@ pub fn read(bytes: &[u8]) -> Reading
     }
 }
 
-// The bytes of a ticket, at the beginning of the output. Nothing is written unless all is: the fields are checked first, then the room.
-// The checks refuse exactly where reading the ticket's bytes would, with the same number and place; else reading them gives the same fields.
+// The bytes of a ticket, at the beginning of the output. Nothing is written unless all is: the fields are checked
+// first, then the room. The checks refuse exactly where reading the ticket's bytes would, with the same number and
+// place; else reading them gives the same fields.
 pub fn write(t: Ticket, out: &mut [u8]) -> Written
-    ensures { λ r. ⌜ (r ≡ writeOf (fieldsOf t) (length (now (out .entry)))) × (now (out .exit) ≡ outputOf (fieldsOf t) (now (out .entry))) × (readOf (bytesOf (fieldsOf t)) ≡ answered (checkOf (fieldsOf t)) (fieldsOf t)) ⌝ }
+    ensures { λ r. ⌜ (r ≡ writeOf (fieldsOf t) (length (now (out .entry))))
+        × (now (out .exit) ≡ outputOf (fieldsOf t) (now (out .entry)))
+        × (readOf (bytesOf (fieldsOf t)) ≡ answered (checkOf (fieldsOf t)) (fieldsOf t)) ⌝ }
 {
     match check(t) {
         Admitted::Refused(r) => Written::Refused(r),

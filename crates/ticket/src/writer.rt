@@ -19,7 +19,8 @@ use commands::header::Header;
 use commands::header::WindowKind;
 use commands::progress::initial;
 
-// Where entry i of a list of marks stands. Past the array's end its last entry stands again, which is refused as a mark that does not rise.
+// Where entry i of a list of marks stands. Past the array's end its last entry stands again, which is refused as a mark
+// that does not rise.
 fn mark_index(i: usize) -> usize
     ensures { λ r. ⌜ r ≡ markIndex i ⌝ }
 {
@@ -55,7 +56,8 @@ fn mark_checked(a: Admitted, m: Mark) -> Admitted
     }
 }
 
-// Document 01's 3 to 7 on the fields, with the offset that the command would have. That every number fits its command's bytes is what the types say.
+// Document 01's 3 to 7 on the fields, with the offset that the command would have. That every number fits its command's
+// bytes is what the types say.
 pub fn check(t: Ticket) -> Admitted
     ensures { λ r. ⌜ (r ≡ checkOf (fieldsOf t)) × FitsFields (fieldsOf t) ⌝ }
 {
@@ -89,7 +91,8 @@ fn put_header(h: Header, out: &mut [u8]) -> usize
 
 fn put_mark(m: Mark, out: &mut [u8], at: usize) -> usize
     requires { ⌜ at + length (encodeAll (commandsAt m)) ≤ length (now out) ⌝ }
-    ensures { λ r. ⌜ (now (out .exit) ≡ spliced (now (out .entry)) at (encodeAll (commandsAt m))) × (r ≡ at + length (encodeAll (commandsAt m))) ⌝ }
+    ensures { λ r. ⌜ (now (out .exit) ≡ spliced (now (out .entry)) at (encodeAll (commandsAt m)))
+        × (r ≡ at + length (encodeAll (commandsAt m))) ⌝ }
 {
     let claim = m.claim;
     let name = m.name;

@@ -1,6 +1,6 @@
-// A ticket's bytes from a short text. Two hexadecimal digits are a byte, in lower case, and spaces are left out. H is a header with a code window of 16
-// bytes at $8000, L one with 4,096 at $1000. M and an address is a mark, N and an address a name; R, an address and a count are marks from that
-// address on, and Q the same, each with its name.
+// A ticket's bytes from a short text. Two hexadecimal digits are a byte, in lower case, and spaces are left out. H is a
+// header with a code window of 16 bytes at $8000, L one with 4,096 at $1000. M and an address is a mark, N and an
+// address a name; R, an address and a count are marks from that address on, and Q the same, each with its name.
 use std::num::wrapping_add_u16;
 use std::num::wrapping_add_usize;
 

@@ -1,7 +1,8 @@
-// Tickets given to the writer as fields, one to a line, and what it answers. A line has, in hexadecimal and each at its place: = and the ticket to begin
-// with (H with two marks, the first with a name, which takes 56 bytes, or L with 4,096 marks and their names); the room that the output has; the three
-// windows, the entry and the limit; the number of marks; then an index and the mark that goes there, its address, cost, depth and need, and N with a name
-// or - without. The rest of the line says what is altered.
+// Tickets given to the writer as fields, one to a line, and what it answers. A line has, in hexadecimal and each at its
+// place: = and the ticket to begin with (H with two marks, the first with a name, which takes 56 bytes, or L with 4,096
+// marks and their names); the room that the output has; the three windows, the entry and the limit; the number of
+// marks; then an index and the mark that goes there, its address, cost, depth and need, and N with a name or - without.
+// The rest of the line says what is altered.
 use crate::build::build;
 use crate::build::byte_at;
 use crate::build::word;

@@ -1,4 +1,5 @@
-// The lines of a text: one that begins with # is a heading, one that begins with = a ticket for the writer, every other a ticket to read.
+// The lines of a text: one that begins with # is a heading, one that begins with = a ticket for the writer, every other
+// a ticket to read.
 ghost use Prim.Native.Nat.{_+_, _≤_, _<_};
 ghost use lib.ListN.{length};
 use crate::fields::wrote;

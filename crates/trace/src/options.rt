@@ -4,7 +4,8 @@ use arguments::argument::Setting;
 use arguments::argument::argument_in;
 use registers::Data;
 
-// `good` unless an argument is unknown or malformed. `memory` is the number of the argument that names a file, 0 where none does.
+// `good` unless an argument is unknown or malformed. `memory` is the number of the argument that names a file, 0 where
+// none does.
 pub struct Options {
     pub start: Data,
     pub budget: u32,

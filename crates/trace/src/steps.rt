@@ -18,7 +18,8 @@ use text::summary::Visits;
 use text::summary::put_summary;
 use ticket::fields::Ticket;
 
-// The registers reached, the cycles spent and the lowest SP so far; of the last instruction, where its mark stands and the cycles to go from it.
+// The registers reached, the cycles spent and the lowest SP so far; of the last instruction, where its mark stands and
+// the cycles to go from it.
 pub struct Reached {
     pub regs: Registers,
     pub spent: u32,
@@ -141,7 +142,8 @@ pub fn summary(t: Ticket, r: Registers, mem: [u8; 65536], total: u32, limit: u32
     s
 }
 
-// The marks in rising address. The memory is that of the start: no instruction of an accepted routine writes a code byte.
+// The marks in rising address. The memory is that of the start: no instruction of an accepted routine writes a code
+// byte.
 fn addresses(t: Ticket, mem: &[u8; 65536], visits: [Visits; 4096]) {
     let marks = t.marks;
     let count = t.count as usize;

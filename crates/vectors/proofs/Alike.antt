@@ -1,4 +1,5 @@
--- Registers are equal where each of the seven is, and an answer is the one expected where its registers and its cycles are.
+-- Registers are equal where each of the seven is, and an answer is the one expected where its registers and its cycles
+-- are.
 -- Assumes nothing.
 use mathlib.Core.Path.{_≡_, refl, subst}
 use mathlib.Core.Bool.{Bool, true, _&&_, and-eq-true-iff}
@@ -41,7 +42,8 @@ alike-same p q e =
     let y = and-eq-true-iff (toX p q) (eqb (p .y) (q .y)) .0 (s .0) in
     let x = and-eq-true-iff (toB p q) (eqb (p .x) (q .x)) .0 (y .0) in
     let b = and-eq-true-iff (eqb (p .a) (q .a)) (eqb (p .b) (q .b)) .0 (x .0) in
-    let w : made (p .x) (p .y) (p .sp) (p .pc) (p .a) (p .b) (p .flags) ≡ made (q .x) (q .y) (q .sp) (q .pc) (q .a) (q .b) (q .flags) =
+    let w : made (p .x) (p .y) (p .sp) (p .pc) (p .a) (p .b) (p .flags)
+    ≡ made (q .x) (q .y) (q .sp) (q .pc) (q .a) (q .b) (q .flags) =
     cc (
       eqb-true (p .flags) (q .flags) (f .1),
       eqb-true (p .pc) (q .pc) (u .1),
@@ -73,7 +75,8 @@ module _ (p q : Registers) (j k : Cycles) (b : Bool) where
   pub alike-done : (b ≡ true → p ≡ q) → (eqb (j .0) (k .0) && b) ≡ true → done p j ≡ done q k
   alike-done h e =
       let t = and-eq-true-iff (eqb (j .0) (k .0)) b .0 e in
-      let w : done p (record { 0 = j .0 }) ≡ done q (record { 0 = k .0 }) = cc (h (t .1), eqb-true (j .0) (k .0) (t .0)) in
+      let w : done p (record { 0 = j .0 }) ≡ done q (record { 0 = k .0 }) =
+      cc (h (t .1), eqb-true (j .0) (k .0) (t .0)) in
       w
 
   pub done-alike : (p ≡ q → b ≡ true) → done p j ≡ done q k → (eqb (j .0) (k .0) && b) ≡ true

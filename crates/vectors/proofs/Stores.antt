@@ -11,7 +11,8 @@ use Rattle.vectors.specs.Vector.{storesIn}
 
 -- the first of them, and then the others
 pub first-store : (s m : List ℕ) (i n : ℕ)
-    → 0 < n → applied (storesIn s i n) m ≡ applied (storesIn s (i + 7) (n - 1)) (withByte m (wordIn s i) (byteIn s (i + 4)))
+    → 0 < n → applied (storesIn s i n) m ≡ applied (storesIn s (i + 7) (n - 1))
+    (withByte m (wordIn s i) (byteIn s (i + 4)))
 unfolding storesIn
 first-store s m i zero h = absurd (omega arith)
 first-store s m i (suc n) h = let e : suc n - 1 ≡ n = omega arith in rw e

@@ -1,4 +1,5 @@
--- Upper-case hexadecimal digits in a line of text, and the bytes, words and registers that they spell (docs/SIMULATORS.md, "The file").
+-- Upper-case hexadecimal digits in a line of text, and the bytes, words and registers that they spell
+-- (docs/SIMULATORS.md, "The file").
 -- Assumes nothing.
 use Prim.Native.Nat.{ℕ, _+_, _-_, _*_, _%_}
 use mathlib.Core.Bool.{cond}

@@ -1,4 +1,5 @@
--- The shape of a line, `K C BEFORE AFTER N MEMORY W WRITES`: which places hold a space, which a digit, and how long it is (docs/SIMULATORS.md, "The file").
+-- The shape of a line, `K C BEFORE AFTER N MEMORY W WRITES`: which places hold a space, which a digit, and how long it
+-- is (docs/SIMULATORS.md, "The file").
 -- Assumes nothing.
 use Prim.Native.Nat.{ℕ, _+_, _-_, _*_, _%_, _≤_, _<_}
 use mathlib.Core.Path.{_≡_}
@@ -18,8 +19,8 @@ listedIn s = byteIn s 52
 abbrev pub writtenIn : List ℕ → ℕ
 writtenIn s = byteIn s (55 + 7 * listedIn s)
 
--- whether a space is due at a place of a line that lists n bytes: after K, C, BEFORE, AFTER and N, after each byte listed, and before each
--- byte written
+-- whether a space is due at a place of a line that lists n bytes: after K, C, BEFORE, AFTER and N, after each byte
+-- listed, and before each byte written
 unfoldable pub spaceDue : ℕ → ℕ → Bool
 spaceDue n i =
     cond (ltb i 55) (eqb i 2 || (eqb i 5 || (eqb i 28 || (eqb i 51 || eqb i 54))))

@@ -1,4 +1,5 @@
--- The lines of a text, byte by byte: what is read of the last line, and what is counted of those before it (docs/SIMULATORS.md, "The file").
+-- The lines of a text, byte by byte: what is read of the last line, and what is counted of those before it
+-- (docs/SIMULATORS.md, "The file").
 -- Assumes nothing.
 use Prim.Native.Nat.{ℕ, _<_, _≤_}
 use mathlib.Core.Path.{_≡_}
@@ -28,10 +29,12 @@ reading l c = record { line = l; counts = c }
 abbrev pub held : State → List ℕ → Reading
 held st buffer = reading (take (st .filled) buffer) (st .counts)
 
--- one byte more. A line feed ends a line. 256 bytes of a line are kept: no vector is as long, so a longer line is malformed
+-- one byte more. A line feed ends a line. 256 bytes of a line are kept: no vector is as long, so a longer line is
+-- malformed
 pub data Next : ℕ → Reading → Reading → Type 0 where
   ended : {l : List ℕ} {c c′ : Counts} → Counted l c c′ → Next 10 (reading l c) (reading [] c′)
-  longer : {b : ℕ} {l : List ℕ} {c : Counts} → (b ≡ 10 → ⊥) → length l < 256 → Next b (reading l c) (reading (l ++ (b ∷ [])) c)
+  longer : {b : ℕ} {l : List ℕ} {c : Counts} → (b ≡ 10 → ⊥) → length l < 256 →
+      Next b (reading l c) (reading (l ++ (b ∷ [])) c)
   full : {b : ℕ} {l : List ℕ} {c : Counts} → (b ≡ 10 → ⊥) → length l ≡ 256 → Next b (reading l c) (reading l c)
 
 -- a text, from its first byte on

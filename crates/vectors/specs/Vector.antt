@@ -1,4 +1,5 @@
--- What a line says, and when it holds: a step from its registers and its memory comes to exactly its registers, its cycles and its memory (docs/SIMULATORS.md, "The file").
+-- What a line says, and when it holds: a step from its registers and its memory comes to exactly its registers, its
+-- cycles and its memory (docs/SIMULATORS.md, "The file").
 -- Assumes nothing.
 use Prim.Native.Nat.{ℕ, zero, suc, _+_, _*_}
 use mathlib.Core.Path.{_≡_}

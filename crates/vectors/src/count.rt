@@ -75,7 +75,8 @@ pub fn counted(c: Counts, kind: u8, v: Comparison) -> Counts
 // One vector more at a place.
 pub fn note(places: &mut [u32; 1024], place: u16)
     requires { ⌜ place < 1024 ⌝ }
-    ensures { λ _. ⌜ now (places .exit) ≡ set (now (places .entry)) place (next (getD (now (places .entry)) place 0)) ⌝ }
+    ensures { λ _. ⌜ now (places .exit)
+        ≡ set (now (places .entry)) place (next (getD (now (places .entry)) place 0)) ⌝ }
 {
     let i = place as usize;
     places[i] = wrapping_add_u32(places[i], 1);

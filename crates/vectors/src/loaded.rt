@@ -22,7 +22,8 @@ pub fn background() -> [u8; 65536]
 fn load(mem: &mut [u8], s: &[u8], from: usize, n: usize)
     requires { ⌜ length (now mem) ≡ 65536 ⌝ }
     requires { ⌜ from + 7 * n ≤ length (now s) + 1 ⌝ }
-    ensures { λ _. ⌜ (now (mem .exit) ≡ applied (storesIn (now (s .entry)) from n) (now (mem .entry))) × (length (now (mem .exit)) ≡ 65536) ⌝ }
+    ensures { λ _. ⌜ (now (mem .exit) ≡ applied (storesIn (now (s .entry)) from n) (now (mem .entry)))
+        × (length (now (mem .exit)) ≡ 65536) ⌝ }
 {
     let mut i = from;
     let mut left = n;

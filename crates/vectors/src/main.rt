@@ -1,4 +1,5 @@
-// Stored vectors of other simulators, each run through `step`: reads vectors.txt from its folder and prints what agrees.
+// Stored vectors of other simulators, each run through `step`: reads vectors.txt from its folder and prints what
+// agrees.
 use count::Counts;
 use output::counted;
 use output::text;

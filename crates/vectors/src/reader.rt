@@ -83,7 +83,8 @@ fn byte(b: u8, st: State, buffer: &mut [u8], places: &mut [u32; 1024]) -> State
 fn piece(s: &[u8], st: State, buffer: &mut [u8], places: &mut [u32; 1024]) -> State
     requires { ⌜ length (now buffer) ≡ 256 ⌝ }
     requires { ⌜ st .filled ≤ 256 ⌝ }
-    ensures { λ r. ⌜ (r .filled ≤ 256) × Reads (now (s .entry)) (held st (now (buffer .entry))) (held r (now (buffer .exit))) ⌝ }
+    ensures { λ r. ⌜ (r .filled ≤ 256) × Reads (now (s .entry)) (held st (now (buffer .entry)))
+        (held r (now (buffer .exit))) ⌝ }
 {
     let mut q = st;
     for i in 0..s.len() {

@@ -27,7 +27,9 @@ module _ (f : Fields) (H : HeaderRules (f .header)) (m : List ℕ) where
   apart a c low high = H .stack-apart-code a c (omega (arith, H .stack-length .0), omega (arith, H .stack-length .0))
 
   off-home : (a : ℕ) → In (f .header .code) a → byteAt (applied (homeOf f) m) a ≡ byteAt m a
-  off-home a c = byte-applied m a (more (λ e. apart a c (omega arith) (omega arith)) (more (λ e. apart a c (omega arith) (omega arith)) none))
+  off-home a c =
+      byte-applied m a (more (λ e. apart a c (omega arith) (omega arith))
+      (more (λ e. apart a c (omega arith) (omega arith)) none))
 
   low : length m ≡ 65536 → byteAt (applied (homeOf f) m) (topOf f) ≡ 0
   unfolding byteAt withByte
@@ -38,7 +40,12 @@ module _ (f : Fields) (H : HeaderRules (f .header)) (m : List ℕ) where
   high : length m ≡ 65536 → byteAt (applied (homeOf f) m) (topOf f - 1) ≡ 0
   unfolding byteAt withByte
   high s =
-      getD-set-same (set m (topOf f) 0) (topOf f - 1) 0 0 (omega (arith, H .stack-length .0, H .stack-edge, length-set m (topOf f) 0))
+      getD-set-same (set m (topOf f) 0) (topOf f - 1) 0 0 (omega (
+        arith,
+        H .stack-length .0,
+        H .stack-edge,
+        length-set m (topOf f) 0,
+      ))
 
 module _ (f : Fields) (image m : List ℕ) (A : Accepted f image) (size : length m ≡ 65536) where
   started : (d : Data) → startedOf (f .header) d image m ≡ At (startOf d (f .header .entry) (topOf f))
@@ -54,7 +61,8 @@ module _ (f : Fields) (image m : List ℕ) (A : Accepted f image) (size : length
   stored : (i : ℕ) → i < length image → byteAt filled (wrappingAdd (f .header .code .start) i) ≡ getD image i 0
   stored i h =
       let H = A .readable .header-rules in
-      image-read (f .header .code .start) image m i (omega (arith, H .code-edge, A .image-length)) (omega (arith, H .code-edge, A .image-length)) size h
+      image-read (f .header .code .start) image m i (omega (arith, H .code-edge, A .image-length))
+      (omega (arith, H .code-edge, A .image-length)) size h
 
   loaded : Loaded f image (loadedOf (f .header) image m)
   unfolding loadedOf
@@ -65,7 +73,8 @@ module _ (f : Fields) (image m : List ℕ) (A : Accepted f image) (size : length
         whole = length-applied (homeOf f) filled ∙ whole;
         code = λ i h.
             let fits : i < f .header .code .length = omega (arith, A .image-length) in
-            off-home f H filled (f .header .code .start + i) (omega arith, omega arith) ∙ (rw (code-is f H i fits) at (stored i h));
+            off-home f H filled (f .header .code .start + i) (omega arith, omega arith) ∙
+            (rw (code-is f H i fits) at (stored i h));
         home-low = low f H filled whole;
         home-high = high f H filled whole;
       })

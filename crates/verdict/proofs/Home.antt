@@ -34,7 +34,8 @@ module _ (ticket image : List ℕ) (bytes : AllBytes ticket) where
   -- of the fields that were read and accepted
   start-comes-home : (f : Fields) → readOf ticket ≡ read f → (e : ℕ) (c : Cycles) (k : StackBytes)
       → verdictOn f image ≡ Accept e c k
-      → (d : Data) (m : List ℕ) → length m ≡ 65536 → StartComesHome ticket image (record { header = f .header; cost = c; stack = k }) d m
+      → (d : Data) (m : List ℕ) → length m ≡ 65536 → StartComesHome ticket image
+      (record { header = f .header; cost = c; stack = k }) d m
   start-comes-home f h e c k j d m size =
       let R = read-rules ticket f bytes h in
       let A = accepted f image (R .2) e c k j in
@@ -125,6 +126,7 @@ module _ (ticket image : List ℕ) (d : Data) (m : List ℕ) where
       home-by bytes (eqb-true _ _ e) (admittedOf ticket image) (homeward ticket image bytes) r s
   home-sized bytes false e r s = absurd (not-started (refusal 21 0) r s)
 
-pub started-comes-home : (ticket image : List ℕ) → AllBytes ticket → (d : Data) (m : List ℕ) → StartedComesHome ticket image d m
+pub started-comes-home : (ticket image : List ℕ) → AllBytes ticket → (d : Data) (m : List ℕ) →
+    StartedComesHome ticket image d m
 unfolding startRoutineOf
 started-comes-home ticket image bytes d m = home-sized ticket image d m bytes (eqb (length m) 65536) refl

@@ -32,21 +32,26 @@ module _ (f : Fields) (image m : List ℕ) (A : Accepted f image) (a : ℕ) wher
       let at : a ≡ f .header .code .start + p .0 = sym e ∙ p .2 ∙ code-is f H (p .0) fits in
       off (omega arith, omega arith)
 
-  off-image : (In (f .header .code) a → ⊥) → byteAt (applied (imageStores (f .header .code .start) image) m) a ≡ byteAt m a
+  off-image : (In (f .header .code) a → ⊥) → byteAt (applied (imageStores (f .header .code .start) image) m) a
+      ≡ byteAt m a
   off-image off =
       let H = A .readable .header-rules in
-      byte-applied m a (every-map (away off) (image-among (f .header .code .start) image (omega (arith, H .code-edge, H .code-length .0))))
+      byte-applied m a (every-map (away off) (image-among (f .header .code .start) image
+      (omega (arith, H .code-edge, H .code-length .0))))
 
   off-home : (n : List ℕ) → (a ≡ topOf f → ⊥) → (a ≡ topOf f - 1 → ⊥) → byteAt (applied (homeOf f) n) a ≡ byteAt n a
   off-home n not-low not-high = byte-applied n a (more (λ e. not-low (sym e)) (more (λ e. not-high (sym e)) none))
 
-  kept-at : (In (f .header .code) a → ⊥) → (a ≡ topOf f → ⊥) → (a ≡ topOf f - 1 → ⊥) → byteAt (loadedOf (f .header) image m) a ≡ byteAt m a
+  kept-at : (In (f .header .code) a → ⊥) → (a ≡ topOf f → ⊥) → (a ≡ topOf f - 1 → ⊥) →
+      byteAt (loadedOf (f .header) image m) a ≡ byteAt m a
   unfolding loadedOf
   kept-at off not-low not-high =
       let H = A .readable .header-rules in
       rw (last-is f H, under-is f H)
-      (either (eqb (length m) 65536) (eqb (length image) (f .header .code .length)) m _ a (off-home _ not-low not-high ∙ off-image off))
+      (either (eqb (length m) 65536) (eqb (length image) (f .header .code .length)) m _ a
+      (off-home _ not-low not-high ∙ off-image off))
 
-pub kept : (h : Header) (image m : List ℕ) (f : Fields) → f .header ≡ h → Accepted f image → (a : ℕ) → (In (h .code) a → ⊥) → (a ≡ topOf f → ⊥) → (a ≡ topOf f - 1 → ⊥)
+pub kept : (h : Header) (image m : List ℕ) (f : Fields) → f .header ≡ h → Accepted f image → (a : ℕ) →
+    (In (h .code) a → ⊥) → (a ≡ topOf f → ⊥) → (a ≡ topOf f - 1 → ⊥)
     → byteAt (loadedOf h image m) a ≡ byteAt m a
 kept h image m f e A = rw (← e) (kept-at f image m A)

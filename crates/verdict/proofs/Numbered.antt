@@ -21,11 +21,13 @@ use Rattle.commands.specs.declared.progress.Progress.{Progress}
 use Rattle.commands.specs.declared.admit.Admitted.the-variants.{Refused, Next}
 use Rattle.ticket.specs.declared.fields.Mark.{Mark}
 use Rattle.ticket.specs.Fields.{Fields}
-use Rattle.ticket.specs.Read.{refusal, admittedAs, parsedAs, nextCommandOf, endOf, Rest, readOnward, ifEnded, readFrom, readOf}
+use Rattle.ticket.specs.Read.{refusal, admittedAs, parsedAs, nextCommandOf, endOf, Rest, readOnward, ifEnded, readFrom}
+use Rattle.ticket.specs.Read.{readOf}
 use Rattle.answers.specs.declared.Verdict.{Verdict}
 use Rattle.answers.specs.declared.Verdict.the-variants.{Accept, Refuse}
 use Rattle.rules.specs.Marks.{claimAt}
-use Rattle.rules.specs.Checks.{Check, firstFailing, checksAt, checksOfMarks, wholeChecks, checksOf, acceptOf, verdictOn, verdictBy, verdictOf}
+use Rattle.rules.specs.Checks.{Check, firstFailing, checksAt, checksOfMarks, wholeChecks, checksOf, acceptOf, verdictOn}
+use Rattle.rules.specs.Checks.{verdictBy, verdictOf}
 use Rattle.verdict.specs.Promise.{RefusalsNumbered}
 
 abbrev InTable : ℕ → Type 0
@@ -39,13 +41,15 @@ abbrev AllInTable : List Check → Type 0
 AllInTable [] = Unit
 AllInTable (c ∷ cs) = InTable (c .number) × AllInTable cs
 
-either : (b : Bool) (v : Verdict) (n place : ℕ) → OneToTwenty v → InTable n → OneToTwenty (cond b v (Refuse (refusal n place)))
+either : (b : Bool) (v : Verdict) (n place : ℕ) → OneToTwenty v → InTable n →
+    OneToTwenty (cond b v (Refuse (refusal n place)))
 either true v n place rest this = rest
 either false v n place rest this = this
 
 first-numbered : (cs : List Check) (v : Verdict) → AllInTable cs → OneToTwenty v → OneToTwenty (firstFailing cs v)
 first-numbered [] v these rest = rest
-first-numbered (c ∷ cs) v these rest = either (c .passes) (firstFailing cs v) (c .number) (c .place) (first-numbered cs v (these .1) rest) (these .0)
+first-numbered (c ∷ cs) v these rest =
+    either (c .passes) (firstFailing cs v) (c .number) (c .place) (first-numbered cs v (these .1) rest) (these .0)
 
 accept-numbered : (entry : ℕ) (k : Option Claim) → OneToTwenty (acceptOf entry k)
 accept-numbered entry none = search arith
@@ -62,7 +66,8 @@ module _ (f : Fields) (image : List ℕ) where
   verdict-on-numbered =
       let entry = f .header .entry in
       let claim = claimAt (f .marks) entry in
-      first-numbered (checksOf f image) (acceptOf entry claim) (search (arith, checks-numbered (f .marks))) (accept-numbered entry claim)
+      first-numbered (checksOf f image) (acceptOf entry claim) (search (arith, checks-numbered (f .marks)))
+      (accept-numbered entry claim)
 
 most : (b : Bool) (n k : ℕ) → leb n 20 ≡ true → leb k 20 ≡ true → leb (cond b n k) 20 ≡ true
 most true n k p q = p
@@ -72,7 +77,8 @@ cause-most : (p : Progress) (c : Command) → leb (commandCauseOf p c) 20 ≡ tr
 unfolding commandCauseOf
 cause-most p c = search most
 
-end-numbered : (image : List ℕ) (p : Progress) (ms : List Mark) (s : List ℕ) → OneToTwenty (verdictBy (endOf p ms s) image)
+end-numbered : (image : List ℕ) (p : Progress) (ms : List Mark) (s : List ℕ) →
+    OneToTwenty (verdictBy (endOf p ms s) image)
 end-numbered image p ms [] = verdict-on-numbered _ image
 end-numbered image p ms (b ∷ s) = search arith
 
@@ -80,7 +86,8 @@ end-numbered image p ms (b ∷ s) = search arith
 module _ (image : List ℕ) (ms : List Mark) (s : List ℕ) (f : Rest)
     (left : (q : Progress) (ks : List Mark) (t : List ℕ) → OneToTwenty (verdictBy (f q ks t) image)) where
   admit-numbered : (p q : Progress) (c : Command) (n : ℕ) → leb n 20 ≡ true
-      → OneToTwenty (verdictBy (readOnward (admittedAs (cond (eqb n 0) (Next q) (Refused (refusal n (p .at)))) c) ms s f) image)
+      → OneToTwenty (verdictBy (readOnward (admittedAs (cond (eqb n 0) (Next q) (Refused (refusal n (p .at)))) c) ms s
+      f) image)
   admit-numbered p q c zero few = left q _ _
   admit-numbered p q c (suc n) few = rw eqb·suc-zero (omega arith, leb-true (suc n) 20 few)
 
@@ -95,7 +102,8 @@ module _ (image : List ℕ) (ms : List Mark) (s : List ℕ) (f : Rest)
   rest-numbered p true = end-numbered image p ms s
   rest-numbered p false = turn-numbered p (Bytes.decodeOf s)
 
-read-numbered : (image : List ℕ) (n : ℕ) (p : Progress) (ms : List Mark) (s : List ℕ) → OneToTwenty (verdictBy (readFrom n p ms s) image)
+read-numbered : (image : List ℕ) (n : ℕ) (p : Progress) (ms : List Mark) (s : List ℕ) →
+    OneToTwenty (verdictBy (readFrom n p ms s) image)
 unfolding readFrom
 read-numbered image zero p ms s = search arith
 read-numbered image (suc n) p ms s = rest-numbered image ms s _ (read-numbered image n) p (eqb (p .stage) 5)

@@ -54,7 +54,8 @@ pub admission-numbered : (ticket image : List ℕ) (r : Refusal) → admittedOf 
 admission-numbered ticket image r h = rw h at (admitted-not-zero ticket image)
 
 -- by the start's two tests
-tests-not-zero : (a b : Bool) (q : Registers) → NotZero (cond a (cond b (At q) (Refused (refusal 9 0))) (Refused (refusal 21 0)))
+tests-not-zero : (a b : Bool) (q : Registers) → NotZero (cond a (cond b (At q) (Refused (refusal 9 0)))
+    (Refused (refusal 21 0)))
 tests-not-zero true true q = tt
 tests-not-zero true false q = omega arith
 tests-not-zero false b q = omega arith
@@ -78,7 +79,8 @@ module _ (image : List ℕ) (d : Data) (m : List ℕ) where
   sized-not-zero true a p = start-not-zero a p
   sized-not-zero false a p = omega arith
 
-pub start-numbered : (ticket image : List ℕ) (d : Data) (m : List ℕ) (r : Refusal) → startRoutineOf ticket image d m .answer ≡ Refused r → 1 ≤ r .number
+pub start-numbered : (ticket image : List ℕ) (d : Data) (m : List ℕ) (r : Refusal) →
+    startRoutineOf ticket image d m .answer ≡ Refused r → 1 ≤ r .number
 unfolding startRoutineOf
 start-numbered ticket image d m r h =
     rw h at (sized-not-zero image d m (eqb (length m) 65536) (admittedOf ticket image) (admitted-not-zero ticket image))

@@ -38,7 +38,8 @@ image-among a [] h = none
 image-among a (b ∷ bs) h =
     more
     (0, omega arith, sym (plus-zero a h))
-    (every-map (λ w p. (suc (p .0), omega (arith, p .1), p .2 ∙ after a (p .0))) (image-among (wrappingAdd a 1) bs (wraps a)))
+    (every-map (λ w p. (suc (p .0), omega (arith, p .1), p .2 ∙ after a (p .0)))
+    (image-among (wrappingAdd a 1) bs (wraps a)))
 
 pub image-read : (a : ℕ) (bs m : List ℕ) (i : ℕ) → a < 65536 → length bs ≤ 65536 → length m ≡ 65536 → i < length bs
     → byteAt (applied (imageStores a bs) m) (wrappingAdd a i) ≡ getD bs i 0
@@ -46,10 +47,12 @@ unfolding byteAt withByte
 image-read a [] m i h l s o = absurd (omega arith)
 image-read a (b ∷ bs) m zero h l s o =
     let away : Every (λ w. w .at ≡ a → ⊥) (imageStores (wrappingAdd a 1) bs) =
-    every-map (λ w p e. apart a (p .0) h (omega (arith, p .1)) (sym (p .2 ∙ after a (p .0)) ∙ e)) (image-among (wrappingAdd a 1) bs (wraps a)) in
+    every-map (λ w p e. apart a (p .0) h (omega (arith, p .1)) (sym (p .2 ∙ after a (p .0)) ∙ e))
+    (image-among (wrappingAdd a 1) bs (wraps a)) in
     rw (plus-zero a h) (byte-applied (set m a b) a away ∙ getD-set-same m a b 0 (omega arith))
 image-read a (b ∷ bs) m (suc i) h l s o =
-    rw (← after a i) (image-read (wrappingAdd a 1) bs (set m a b) i (wraps a) (omega arith) (length-set m a b ∙ s) (omega arith))
+    rw (← after a i) (image-read (wrappingAdd a 1) bs (set m a b) i (wraps a) (omega arith) (length-set m a b ∙ s)
+    (omega arith))
 
 -- home's stores, where nothing wraps
 abbrev pub homeOf : Fields → List Store
@@ -64,6 +67,7 @@ module _ (f : Fields) (H : HeaderRules (f .header)) where
   unfolding wrappingSub
   under-is = omega (arith, H .stack-length .0, H .stack-edge)
 
-  pub code-is : (i : ℕ) → i < f .header .code .length → wrappingAdd (f .header .code .start) i ≡ f .header .code .start + i
+  pub code-is : (i : ℕ) → i < f .header .code .length → wrappingAdd (f .header .code .start) i
+      ≡ f .header .code .start + i
   unfolding wrappingAdd
   code-is i h = omega (arith, H .code-edge)

@@ -15,7 +15,8 @@ use Rattle.rules.specs.Claim.{Demand3}
 -- demand 2: it accepts if and only if every ticket rule holds
 abbrev pub AcceptsExactly : List ℕ → List ℕ → Type 0
 AcceptsExactly ticket image =
-    (entry : ℕ) (cost : Cycles) (stack : StackBytes) → (verdictOf ticket image ≡ Accept entry cost stack) ↔ Certified ticket image entry cost stack
+    (entry : ℕ) (cost : Cycles) (stack : StackBytes) → (verdictOf ticket image ≡ Accept entry cost stack) ↔ Certified
+    ticket image entry cost stack
 
 -- demand 3: what it accepts comes home
 abbrev pub AcceptedComesHome : List ℕ → List ℕ → Type 0

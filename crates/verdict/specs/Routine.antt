@@ -1,4 +1,5 @@
--- A routine judged and, where it is accepted, started; and that what is started comes home (document 01, "Start", "The way home": demand 3).
+-- A routine judged and, where it is accepted, started; and that what is started comes home (document 01, "Start", "The
+-- way home": demand 3).
 -- Assumes nothing.
 use Prim.Native.Nat.{ℕ, _-_}
 use mathlib.Core.Path.{_≡_}
@@ -31,12 +32,14 @@ afterStart a m = record { answer = a; memory = m }
 
 abbrev pub startRoutineBy : Admission → Data → List ℕ → List ℕ → AfterStart
 startRoutineBy (Admission.Refused r) d image m = afterStart (Refused r) m
-startRoutineBy (Admission.Granted c) d image m = afterStart (startedOf (c .header) d image m) (loadedOf (c .header) image m)
+startRoutineBy (Admission.Granted c) d image m =
+    afterStart (startedOf (c .header) d image m) (loadedOf (c .header) image m)
 
 -- 21 is checked first; then what the verdict refuses is refused, and alters nothing
 unfoldable pub startRoutineOf : List ℕ → List ℕ → Data → List ℕ → AfterStart
 startRoutineOf ticket image d m =
-    cond (eqb (length m) 65536) (startRoutineBy (admittedOf ticket image) d image m) (afterStart (Refused (refusal 21 0)) m)
+    cond (eqb (length m) 65536) (startRoutineBy (admittedOf ticket image) d image m)
+    (afterStart (Refused (refusal 21 0)) m)
 
 -- from the registers and the memory that are answered, the routine comes home
 pub record StartCertified (ticket image : List ℕ) (r : Registers) (m : List ℕ) : Type 0 where
@@ -48,7 +51,8 @@ pub record StartCertified (ticket image : List ℕ) (r : Registers) (m : List �
 
 abbrev pub StartedComesHome : List ℕ → List ℕ → Data → List ℕ → Type 0
 StartedComesHome ticket image d m =
-    (r : Registers) → startRoutineOf ticket image d m .answer ≡ At r → StartCertified ticket image r (startRoutineOf ticket image d m .memory)
+    (r : Registers) → startRoutineOf ticket image d m .answer ≡ At r →
+    StartCertified ticket image r (startRoutineOf ticket image d m .memory)
 
 -- a start by the certificate's header succeeds and comes home, within its figures
 abbrev pub StartComesHome : List ℕ → List ℕ → Certificate → Data → List ℕ → Type 0

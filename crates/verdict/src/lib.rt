@@ -83,10 +83,12 @@ pub enum Started {
     Refused(Refusal),
 }
 
-// Document 01's start, from the header of an accepted ticket: the image fills the code window and home goes in as two zero bytes. Of a header that no ticket can have,
-// addresses wrap.
+// Document 01's start, from the header of an accepted ticket: the image fills the code window and home goes in as two
+// zero bytes. Of a header that no ticket can have, addresses wrap.
 pub fn start(h: Header, image: &[u8], d: Data, memory: &mut [u8]) -> Started
-    ensures { λ r. ⌜ (r ≡ startedOf h d (now (image .entry)) (now (memory .entry))) × (now (memory .exit) ≡ loadedOf h (now (image .entry)) (now (memory .entry))) × StartsAsClaimed h d (now (image .entry)) (now (memory .entry)) ⌝ }
+    ensures { λ r. ⌜ (r ≡ startedOf h d (now (image .entry)) (now (memory .entry)))
+        × (now (memory .exit) ≡ loadedOf h (now (image .entry)) (now (memory .entry)))
+        × StartsAsClaimed h d (now (image .entry)) (now (memory .entry)) ⌝ }
 {
     let code = h.code;
     let stack = h.stack;
@@ -102,9 +104,11 @@ pub fn start(h: Header, image: &[u8], d: Data, memory: &mut [u8]) -> Started
     Started::At(Registers::start(d, h.entry, top))
 }
 
-// Judges a routine and, where it is accepted, starts it: what is started comes home. Else the number and place of the verdict's refusal.
+// Judges a routine and, where it is accepted, starts it: what is started comes home. Else the number and place of the
+// verdict's refusal.
 pub fn start_routine(ticket: &[u8], image: &[u8], d: Data, memory: &mut [u8]) -> Started
-    ensures { λ r. ⌜ (afterStart r (now (memory .exit)) ≡ startRoutineOf (now (ticket .entry)) (now (image .entry)) d (now (memory .entry))) × StartedComesHome (now (ticket .entry)) (now (image .entry)) d (now (memory .entry)) ⌝ }
+    ensures { λ r. ⌜ (afterStart r (now (memory .exit)) ≡ startRoutineOf (now (ticket .entry)) (now (image .entry)) d
+        (now (memory .entry))) × StartedComesHome (now (ticket .entry)) (now (image .entry)) d (now (memory .entry)) ⌝ }
 {
     if memory.len() != 65536 {
         return Started::Refused(refuse(21, 0));

@@ -18,7 +18,8 @@ pub fn last_of(w: Window) -> u16
 // The image's bytes, from an address on.
 pub fn fill(from: u16, image: &[u8], memory: &mut [u8])
     requires { ⌜ length (now memory) ≡ 65536 ⌝ }
-    ensures { λ _. ⌜ (now (memory .exit) ≡ applied (imageStores from (now (image .entry))) (now (memory .entry))) × (length (now (memory .exit)) ≡ 65536) ⌝ }
+    ensures { λ _. ⌜ (now (memory .exit) ≡ applied (imageStores from (now (image .entry))) (now (memory .entry)))
+        × (length (now (memory .exit)) ≡ 65536) ⌝ }
 {
     let mut i = 0;
     let mut at = from;
@@ -32,7 +33,8 @@ pub fn fill(from: u16, image: &[u8], memory: &mut [u8])
 // Home's two zero bytes.
 pub fn put_home(top: u16, memory: &mut [u8])
     requires { ⌜ length (now memory) ≡ 65536 ⌝ }
-    ensures { λ _. ⌜ (now (memory .exit) ≡ applied (homeStores top) (now (memory .entry))) × (length (now (memory .exit)) ≡ 65536) ⌝ }
+    ensures { λ _. ⌜ (now (memory .exit) ≡ applied (homeStores top) (now (memory .entry)))
+        × (length (now (memory .exit)) ≡ 65536) ⌝ }
 {
     put_byte(memory, top, 0);
     put_byte(memory, wrapping_sub(top, 1), 0);

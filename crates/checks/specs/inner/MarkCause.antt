@@ -1,4 +1,5 @@
--- Causes 10 to 17 at a mark as the code computes them: of the rules' checks, the first that fails, by the claims at the successors.
+-- Causes 10 to 17 at a mark as the code computes them: of the rules' checks, the first that fails, by the claims at the
+-- successors.
 -- Assumes nothing.
 use Prim.Native.Nat.{ℕ}
 use mathlib.Core.Bool.{Bool, true, cond, _&&_}
@@ -8,7 +9,8 @@ use Rattle.registers.specs.Word.{wrappingAdd}
 use Rattle.commands.specs.Header.{holds}
 use Rattle.commands.specs.declared.command.Claim.{Claim}
 use Rattle.commands.specs.declared.header.Window.{Window}
-use Rattle.rules.specs.Checks.{depthAgrees, costCovers, needCovers, hasDepth, costCoversCall, needCoversTarget, needCoversAfter}
+use Rattle.rules.specs.Checks.{depthAgrees, costCovers, needCovers, hasDepth, costCoversCall, needCoversTarget}
+use Rattle.rules.specs.Checks.{needCoversAfter}
 use Rattle.checks.specs.declared.shape.Writes.{Writes}
 use Rattle.checks.specs.declared.shape.Writes.the-variants.{Nowhere, Byte, Word}
 use Rattle.checks.specs.declared.shape.Ordinary.{Ordinary}

@@ -15,7 +15,8 @@ abbrev pub atEntryOf : Header → Claim → Verdict
 atEntryOf h c =
     cond (eqb (c .depth .0) 0)
     (cond (leb (c .cost .0) (h .limit .0))
-    (cond (leb (c .need .0 + 2) (h .stack .length)) (Accept (h .entry) (c .cost) (record { 0 = c .need .0 + 2 })) (Refuse (refusal 20 (h .entry))))
+    (cond (leb (c .need .0 + 2) (h .stack .length)) (Accept (h .entry) (c .cost) (record { 0 = c .need .0 + 2 }))
+    (Refuse (refusal 20 (h .entry))))
     (Refuse (refusal 19 (h .entry))))
     (Refuse (refusal 18 (h .entry)))
 

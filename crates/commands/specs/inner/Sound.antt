@@ -1,4 +1,5 @@
--- What holds of the progress through every ticket: it serves the proof that no sum of the code overflows and no mark falls outside its array.
+-- What holds of the progress through every ticket: it serves the proof that no sum of the code overflows and no mark
+-- falls outside its array.
 -- Assumes nothing.
 use Prim.Native.Nat.{ℕ, _+_, _*_, _≤_, _<_}
 use mathlib.Core.Path.{_≡_}
@@ -16,7 +17,8 @@ pub record Sound (p : Progress) : Type 0 where
   pub early : p .stage < 4 → (p .at ≤ 5 * p .stage) × (p .count ≡ 0)
   pub late : 4 ≤ p .stage → p .at + 11 * one (p .nameable) ≤ 18 + p .stage + 22 * p .count
   pub small : p .header .code .length ≤ 4096
-  pub rising : 1 ≤ p .count → (p .header .code .start + p .count ≤ p .last + 1) × (p .last < p .header .code .start + p .header .code .length)
+  pub rising : 1 ≤ p .count → (p .header .code .start + p .count ≤ p .last + 1)
+      × (p .last < p .header .code .start + p .header .code .length)
   pub named : p .nameable ≡ true → 1 ≤ p .count
 
 -- the progress, if there is one, is sound

@@ -13,9 +13,12 @@ pub on-registers-spec : {M : Type 1} → statement M
 unfolding opened
 on-registers-spec =
     tie.close
-    (tie.spec (search needs) (search needs) (search needs) (search needs) (search needs) (search needs) (search needs) (search needs)
-    (search needs) (search needs) (search needs) (search needs) (search needs) (search needs) (search needs) (search needs)
-    (search needs) (search needs) (search needs) (search needs) (search needs) (search needs) (search needs) (search needs)
+    (tie.spec (search needs) (search needs) (search needs) (search needs) (search needs) (search needs) (search needs)
+    (search needs)
+    (search needs) (search needs) (search needs) (search needs) (search needs) (search needs) (search needs)
+    (search needs)
+    (search needs) (search needs) (search needs) (search needs) (search needs) (search needs) (search needs)
+    (search needs)
     (search needs) (search needs) (search needs) (search needs) (search needs) (search needs)
     (λ c. leaves (c .before .before .args .r) (c .before .match .keys1) (λ m o. (c .inherent .ensures, refl)))
     (λ c. leaves (c .before .before .args .r) (c .before .match .keys2) (λ m o. (c .inherent2 .ensures, refl)))

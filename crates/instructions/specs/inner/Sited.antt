@@ -1,4 +1,5 @@
--- Where the code finds an operand, and what its functions for one kind of instruction promise. An inner matter of the code: the effect itself is `effectOf`.
+-- Where the code finds an operand, and what its functions for one kind of instruction promise. An inner matter of the
+-- code: the effect itself is `effectOf`.
 -- Assumes nothing.
 use Prim.Native.Nat.{ℕ, _<_}
 use mathlib.Core.Path.{_≡_}
@@ -11,7 +12,12 @@ use Rattle.opcodes.specs.Decode.{operandOf}
 use Rattle.instructions.specs.Form.{targetIn, waits}
 use Rattle.instructions.specs.Entry.{formOf}
 use Rattle.opcodes.specs.declared.instruction.Action.{Action}
-use Rattle.opcodes.specs.declared.instruction.Action.the-variants.{Inherent, Unary, TstAccumulator, Binary, TstMemory, LoadWord, Addd, Subd, CompareWord, StoreByte, StoreWord, Modify, Bset, Bclr, Brset, Brclr, Branch, Jmp, Call, Rts, PushByte, PushWord, PullByte, PullWord, Des, Ins, SetStack, Swi, Rti, Wai, Stop, Test}
+use Rattle.opcodes.specs.declared.instruction.Action.the-variants.{Inherent, Unary, TstAccumulator, Binary, TstMemory}
+use Rattle.opcodes.specs.declared.instruction.Action.the-variants.{LoadWord, Addd, Subd, CompareWord, StoreByte}
+use Rattle.opcodes.specs.declared.instruction.Action.the-variants.{StoreWord, Modify, Bset, Bclr, Brset, Brclr, Branch}
+use Rattle.opcodes.specs.declared.instruction.Action.the-variants.{Jmp, Call, Rts, PushByte, PushWord, PullByte}
+use Rattle.opcodes.specs.declared.instruction.Action.the-variants.{PullWord, Des, Ins, SetStack, Swi, Rti, Wai, Stop}
+use Rattle.opcodes.specs.declared.instruction.Action.the-variants.{Test}
 use Rattle.opcodes.specs.declared.instruction.Mode.{Mode}
 use Rattle.opcodes.specs.declared.instruction.Mode.the-variants as Mode
 use Rattle.opcodes.specs.declared.instruction.Operand.{Operand}
@@ -119,7 +125,8 @@ abbrev pub ModifiesAt : Action → ℕ → Registers → List ℕ → Registers 
 ModifiesAt a at r m q m′ = (o : Operand) → Stands o r at → ByteThere o r m at → Executed (effectOf a o r m) q m m′
 
 abbrev pub MasksAt : Action → ℕ → ℕ → Registers → List ℕ → Registers → List ℕ → Type 0
-MasksAt a k at r m q m′ = (o : Operand) → Stands o r at → ByteThere o r m at → maskOf o ≡ k → Executed (effectOf a o r m) q m m′
+MasksAt a k at r m q m′ =
+    (o : Operand) → Stands o r at → ByteThere o r m at → maskOf o ≡ k → Executed (effectOf a o r m) q m m′
 
 -- for every operand at an address, whatever the memory, which stays as it is
 abbrev pub JumpsTo : Action → ℕ → Registers → Registers → Type 0
@@ -130,7 +137,9 @@ abbrev pub GoesTo : Action → ℕ → Registers → Registers → Type 0
 GoesTo a t r q = (o : Operand) (m : List ℕ) → targetIn o (r .pc) ≡ t → Executed (effectOf a o r m) q m m
 
 abbrev pub GoesOnBits : Action → ℕ → ℕ → ℕ → Registers → Registers → Type 0
-GoesOnBits a v k t r q = (o : Operand) (m : List ℕ) → byteOperand o r m ≡ v → maskOf o ≡ k → targetIn o (r .pc) ≡ t → Executed (effectOf a o r m) q m m
+GoesOnBits a v k t r q =
+    (o : Operand) (m : List ℕ) → byteOperand o r m ≡ v → maskOf o ≡ k → targetIn o (r .pc) ≡ t →
+    Executed (effectOf a o r m) q m m
 
 -- for every operand that is sited at an address, where its bytes start at `from`
 abbrev pub DoesAt : Action → ℕ → ℕ → Registers → List ℕ → Registers → List ℕ → Type 0

@@ -1,5 +1,5 @@
--- A memory after a 16-bit store and after a 16-bit push: what the code's two functions for them leave. An inner matter of
--- the code.
+-- A memory after a 16-bit store and after a 16-bit push: what the code's two functions for them leave. An inner matter
+-- of the code.
 -- Assumes nothing.
 use Prim.Native.Nat.{ℕ}
 use mathlib.Core.List.{List}

@@ -1,13 +1,19 @@
--- The modes that an action can have. The table gives an action no other, so the code that takes its operand looks for these alone. An inner matter of the code.
+-- The modes that an action can have. The table gives an action no other, so the code that takes its operand looks for
+-- these alone. An inner matter of the code.
 -- Assumes nothing.
 use mathlib.Core.Bool.{Bool, true, false}
 use Rattle.opcodes.specs.declared.instruction.Action.{Action}
-use Rattle.opcodes.specs.declared.instruction.Action.the-variants.{Inherent, Unary, TstAccumulator, Binary, TstMemory, LoadWord, Addd, Subd, CompareWord, StoreByte, StoreWord, Modify, Bset, Bclr, Brset, Brclr, Branch, Jmp, Call, Rts, PushByte, PushWord, PullByte, PullWord, Des, Ins, SetStack, Swi, Rti, Wai, Stop, Test}
+use Rattle.opcodes.specs.declared.instruction.Action.the-variants.{Inherent, Unary, TstAccumulator, Binary}
+use Rattle.opcodes.specs.declared.instruction.Action.the-variants.{TstMemory, LoadWord, Addd, Subd, CompareWord}
+use Rattle.opcodes.specs.declared.instruction.Action.the-variants.{StoreByte, StoreWord, Modify, Bset, Bclr}
+use Rattle.opcodes.specs.declared.instruction.Action.the-variants.{Brset, Brclr, Branch, Jmp, Call, Rts, PushByte}
+use Rattle.opcodes.specs.declared.instruction.Action.the-variants.{PushWord, PullByte, PullWord, Des, Ins}
+use Rattle.opcodes.specs.declared.instruction.Action.the-variants.{SetStack, Swi, Rti, Wai, Stop, Test}
 use Rattle.opcodes.specs.declared.instruction.Mode.{Mode}
 use Rattle.opcodes.specs.declared.instruction.Mode.the-variants as Mode
 
--- an answer for each kind of mode: without an operand, an immediate byte, an immediate word, a place in memory, an offset,
--- a mask, a mask and an offset
+-- an answer for each kind of mode: without an operand, an immediate byte, an immediate word, a place in memory, an
+-- offset, a mask, a mask and an offset
 abbrev pub byKind : Mode → (inherent byte word memory offset mask maskBranch : Bool) → Bool
 byKind Mode.Inherent inherent byte word memory offset mask maskBranch = inherent
 byKind Mode.Immediate8 inherent byte word memory offset mask maskBranch = byte

@@ -1,10 +1,16 @@
--- The numbers that the code's tables hold for the actions and the modes: each stands at its number. An inner matter of the code.
+-- The numbers that the code's tables hold for the actions and the modes: each stands at its number. An inner matter of
+-- the code.
 -- Assumes nothing.
 use Prim.Native.Nat.{ℕ}
 use mathlib.Core.List.{List, [], _∷_}
 use lib.ListN.{getD}
 use Rattle.opcodes.specs.declared.instruction.Action.{Action}
-use Rattle.opcodes.specs.declared.instruction.Action.the-variants.{Inherent, Unary, Binary, TstAccumulator, TstMemory, LoadWord, Addd, Subd, CompareWord, StoreByte, StoreWord, Modify, Bset, Bclr, Brset, Brclr, Branch, Jmp, Call, Rts, PushByte, PushWord, PullByte, PullWord, Des, Ins, SetStack, Swi, Rti, Wai, Stop, Test}
+use Rattle.opcodes.specs.declared.instruction.Action.the-variants.{Inherent, Unary, Binary, TstAccumulator}
+use Rattle.opcodes.specs.declared.instruction.Action.the-variants.{TstMemory, LoadWord, Addd, Subd, CompareWord}
+use Rattle.opcodes.specs.declared.instruction.Action.the-variants.{StoreByte, StoreWord, Modify, Bset, Bclr}
+use Rattle.opcodes.specs.declared.instruction.Action.the-variants.{Brset, Brclr, Branch, Jmp, Call, Rts, PushByte}
+use Rattle.opcodes.specs.declared.instruction.Action.the-variants.{PushWord, PullByte, PullWord, Des, Ins}
+use Rattle.opcodes.specs.declared.instruction.Action.the-variants.{SetStack, Swi, Rti, Wai, Stop, Test}
 use Rattle.opcodes.specs.declared.instruction.Inherent.the-variants as I
 use Rattle.opcodes.specs.declared.instruction.Unary.the-variants as Un
 use Rattle.opcodes.specs.declared.instruction.Binary.the-variants as Bi
@@ -14,8 +20,8 @@ use Rattle.opcodes.specs.declared.instruction.Word.the-variants as Wd
 use Rattle.opcodes.specs.declared.instruction.Mode.{Mode}
 use Rattle.opcodes.specs.declared.instruction.Mode.the-variants as Mode
 
--- the code goes by groups of these numbers: 0 .. 29 are for the registers alone, 30 .. 66 for an accumulator or the stack;
--- 67 .. 96 read an operand; 97 .. 134 store, branch or jump; 135 and 136 wait
+-- the code goes by groups of these numbers: 0 .. 29 are for the registers alone, 30 .. 66 for an accumulator or the
+-- stack; 67 .. 96 read an operand; 97 .. 134 store, branch or jump; 135 and 136 wait
 abbrev pub allActions : List Action
 allActions =
     -- the registers alone

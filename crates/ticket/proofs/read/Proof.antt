@@ -1,4 +1,5 @@
--- `read` meets its contract. The loop's invariant is `ReadState`; the measure is how many bytes are left, of which each command takes one or more.
+-- `read` meets its contract. The loop's invariant is `ReadState`; the measure is how many bytes are left, of which each
+-- command takes one or more.
 -- Assumes nothing.
 use borrow.Author.Needs.{needs}
 use Prim.Native.Nat.{_-_}
@@ -13,7 +14,8 @@ use Rattle.ticket.specs.Rules.{ReadByTheRules}
 use Rattle.ticket.specs.RoundTrip.{SameBytes}
 use Rattle.ticket.proofs.Accepts.{by-the-rules}
 use Rattle.ticket.proofs.WrittenRead.{same-bytes}
-use Rattle.ticket.proofs.ReadLoop.{ReadState, reached-start, reached-next, next-bounds, reading-refused, reading-long, reading-done}
+use Rattle.ticket.proofs.ReadLoop.{ReadState, reached-start, reached-next, next-bounds, reading-refused}
+use Rattle.ticket.proofs.ReadLoop.{reading-long, reading-done}
 use Rattle.ticket.proofs.read.Statement.{statement}
 use Rattle.ticket.proofs.read.Tie as tie
 

@@ -11,7 +11,8 @@ use Rattle.verdict.proofs.start_routine.Tie as tie
 
 -- the ticket is a list of bytes
 home : (c : tie.After-slice-known)
-    → let s = c .before .before .before .args in StartedComesHome (s .ticket .now) (s .image .now) (s .d) (s .memory .now)
+    → let s =
+    c .before .before .before .args in StartedComesHome (s .ticket .now) (s .image .now) (s .d) (s .memory .now)
 home c = started-comes-home _ _ (all-bytes _ (λ i. c .before .before .shared-slice-known .given i .fits)) _ _
 
 returns : tie.Need-returns

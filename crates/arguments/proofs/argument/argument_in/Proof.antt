@@ -20,8 +20,12 @@ returns : tie.Need-returns
 unfolding argumentOf
 returns c =
     let s₁ = c .before .before .before .before in
-    simp
-    (sym (s₁ .starts-with .ensures .0) ∙ c .before .before .before .if1 .taken, c .set-to .ensures, c .before .number .ensures, rest)
+    simp (
+      sym (s₁ .starts-with .ensures .0) ∙ c .before .before .before .if1 .taken,
+      c .set-to .ensures,
+      c .before .number .ensures,
+      rest,
+    )
 
 sub-number-2 : tie.Need-sub-number-2
 sub-number-2 c = omega (arith, c .before .starts-with2 .ensures .1 (c .if2 .taken))
@@ -34,8 +38,13 @@ unfolding argumentOf
 returns-2 c =
     let s₂ = c .before .before .before .before in
     let s₁ = s₂ .before .before .before in
-    simp
-    (sym (s₁ .starts-with .ensures .0) ∙ s₂ .before .before .if1 .left, sym (s₂ .starts-with2 .ensures .0) ∙ c .before .before .before .if2 .taken, c .set-to2 .ensures, c .before .number2 .ensures, rest)
+    simp (
+      sym (s₁ .starts-with .ensures .0) ∙ s₂ .before .before .if1 .left,
+      sym (s₂ .starts-with2 .ensures .0) ∙ c .before .before .before .if2 .taken,
+      c .set-to2 .ensures,
+      c .before .number2 .ensures,
+      rest,
+    )
 
 sub-number-3 : tie.Need-sub-number-3
 sub-number-3 c = omega (arith, c .before .starts-with3 .ensures .1 (c .if3 .taken))
@@ -49,8 +58,14 @@ returns-3 c =
     let s₃ = c .before .before .before .before in
     let s₂ = s₃ .before .before .before in
     let s₁ = s₂ .before .before .before in
-    simp
-    (sym (s₁ .starts-with .ensures .0) ∙ s₂ .before .before .if1 .left, sym (s₂ .starts-with2 .ensures .0) ∙ s₃ .before .before .if2 .left, sym (s₃ .starts-with3 .ensures .0) ∙ c .before .before .before .if3 .taken, c .set-to3 .ensures, c .before .number3 .ensures, rest)
+    simp (
+      sym (s₁ .starts-with .ensures .0) ∙ s₂ .before .before .if1 .left,
+      sym (s₂ .starts-with2 .ensures .0) ∙ s₃ .before .before .if2 .left,
+      sym (s₃ .starts-with3 .ensures .0) ∙ c .before .before .before .if3 .taken,
+      c .set-to3 .ensures,
+      c .before .number3 .ensures,
+      rest,
+    )
 
 sub-number-4 : tie.Need-sub-number-4
 sub-number-4 c = omega (arith, c .before .starts-with4 .ensures .1 (c .if4 .taken))
@@ -65,8 +80,15 @@ returns-4 c =
     let s₃ = s₄ .before .before .before in
     let s₂ = s₃ .before .before .before in
     let s₁ = s₂ .before .before .before in
-    simp
-    (sym (s₁ .starts-with .ensures .0) ∙ s₂ .before .before .if1 .left, sym (s₂ .starts-with2 .ensures .0) ∙ s₃ .before .before .if2 .left, sym (s₃ .starts-with3 .ensures .0) ∙ s₄ .before .before .if3 .left, sym (s₄ .starts-with4 .ensures .0) ∙ c .before .before .before .if4 .taken, c .set-to4 .ensures, c .before .number4 .ensures, rest)
+    simp (
+      sym (s₁ .starts-with .ensures .0) ∙ s₂ .before .before .if1 .left,
+      sym (s₂ .starts-with2 .ensures .0) ∙ s₃ .before .before .if2 .left,
+      sym (s₃ .starts-with3 .ensures .0) ∙ s₄ .before .before .if3 .left,
+      sym (s₄ .starts-with4 .ensures .0) ∙ c .before .before .before .if4 .taken,
+      c .set-to4 .ensures,
+      c .before .number4 .ensures,
+      rest,
+    )
 
 sub-number-5 : tie.Need-sub-number-5
 sub-number-5 c = omega (arith, c .before .starts-with5 .ensures .1 (c .if5 .taken))
@@ -82,8 +104,16 @@ returns-5 c =
     let s₃ = s₄ .before .before .before in
     let s₂ = s₃ .before .before .before in
     let s₁ = s₂ .before .before .before in
-    simp
-    (sym (s₁ .starts-with .ensures .0) ∙ s₂ .before .before .if1 .left, sym (s₂ .starts-with2 .ensures .0) ∙ s₃ .before .before .if2 .left, sym (s₃ .starts-with3 .ensures .0) ∙ s₄ .before .before .if3 .left, sym (s₄ .starts-with4 .ensures .0) ∙ s₅ .before .before .if4 .left, sym (s₅ .starts-with5 .ensures .0) ∙ c .before .before .before .if5 .taken, c .set-to5 .ensures, c .before .number5 .ensures, rest)
+    simp (
+      sym (s₁ .starts-with .ensures .0) ∙ s₂ .before .before .if1 .left,
+      sym (s₂ .starts-with2 .ensures .0) ∙ s₃ .before .before .if2 .left,
+      sym (s₃ .starts-with3 .ensures .0) ∙ s₄ .before .before .if3 .left,
+      sym (s₄ .starts-with4 .ensures .0) ∙ s₅ .before .before .if4 .left,
+      sym (s₅ .starts-with5 .ensures .0) ∙ c .before .before .before .if5 .taken,
+      c .set-to5 .ensures,
+      c .before .number5 .ensures,
+      rest,
+    )
 
 sub-number-6 : tie.Need-sub-number-6
 sub-number-6 c = omega (arith, c .before .starts-with6 .ensures .1 (c .if6 .taken))
@@ -100,8 +130,17 @@ returns-6 c =
     let s₃ = s₄ .before .before .before in
     let s₂ = s₃ .before .before .before in
     let s₁ = s₂ .before .before .before in
-    simp
-    (sym (s₁ .starts-with .ensures .0) ∙ s₂ .before .before .if1 .left, sym (s₂ .starts-with2 .ensures .0) ∙ s₃ .before .before .if2 .left, sym (s₃ .starts-with3 .ensures .0) ∙ s₄ .before .before .if3 .left, sym (s₄ .starts-with4 .ensures .0) ∙ s₅ .before .before .if4 .left, sym (s₅ .starts-with5 .ensures .0) ∙ s₆ .before .before .if5 .left, sym (s₆ .starts-with6 .ensures .0) ∙ c .before .before .before .if6 .taken, c .set-to6 .ensures, c .before .number6 .ensures, rest)
+    simp (
+      sym (s₁ .starts-with .ensures .0) ∙ s₂ .before .before .if1 .left,
+      sym (s₂ .starts-with2 .ensures .0) ∙ s₃ .before .before .if2 .left,
+      sym (s₃ .starts-with3 .ensures .0) ∙ s₄ .before .before .if3 .left,
+      sym (s₄ .starts-with4 .ensures .0) ∙ s₅ .before .before .if4 .left,
+      sym (s₅ .starts-with5 .ensures .0) ∙ s₆ .before .before .if5 .left,
+      sym (s₆ .starts-with6 .ensures .0) ∙ c .before .before .before .if6 .taken,
+      c .set-to6 .ensures,
+      c .before .number6 .ensures,
+      rest,
+    )
 
 returns-7 : tie.Need-returns-7
 unfolding argumentOf
@@ -112,8 +151,15 @@ returns-7 c =
     let s₃ = s₄ .before .before .before in
     let s₂ = s₃ .before .before .before in
     let s₁ = s₂ .before .before .before in
-    simp
-    (sym (s₁ .starts-with .ensures .0) ∙ s₂ .before .before .if1 .left, sym (s₂ .starts-with2 .ensures .0) ∙ s₃ .before .before .if2 .left, sym (s₃ .starts-with3 .ensures .0) ∙ s₄ .before .before .if3 .left, sym (s₄ .starts-with4 .ensures .0) ∙ s₅ .before .before .if4 .left, sym (s₅ .starts-with5 .ensures .0) ∙ s₆ .before .before .if5 .left, sym (s₆ .starts-with6 .ensures .0) ∙ c .before .if6 .left, c .other .ensures)
+    simp (
+      sym (s₁ .starts-with .ensures .0) ∙ s₂ .before .before .if1 .left,
+      sym (s₂ .starts-with2 .ensures .0) ∙ s₃ .before .before .if2 .left,
+      sym (s₃ .starts-with3 .ensures .0) ∙ s₄ .before .before .if3 .left,
+      sym (s₄ .starts-with4 .ensures .0) ∙ s₅ .before .before .if4 .left,
+      sym (s₅ .starts-with5 .ensures .0) ∙ s₆ .before .before .if5 .left,
+      sym (s₆ .starts-with6 .ensures .0) ∙ c .before .if6 .left,
+      c .other .ensures,
+    )
 
 pub argument-in-spec : {M : Type 1} → statement M
 argument-in-spec =

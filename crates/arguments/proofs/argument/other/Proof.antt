@@ -19,21 +19,30 @@ returns-3 : tie.Need-returns-3
 unfolding otherOf
 returns-3 c =
     let m = c .before .before .before .before .before in
-    simp
-    (sym (m .starts-with .ensures .0) ∙ c .before .before .before .before .if1 .left, sym (c .before .before .starts-with2 .ensures .0) ∙ c .before .if3 .taken, eq-eqb _ _ (c .if4 .taken))
+    simp (
+      sym (m .starts-with .ensures .0) ∙ c .before .before .before .before .if1 .left,
+      sym (c .before .before .starts-with2 .ensures .0) ∙ c .before .if3 .taken,
+      eq-eqb _ _ (c .if4 .taken),
+    )
 
 returns-4 : tie.Need-returns-4
 unfolding otherOf
 returns-4 c =
     let m = c .before .before .before .before .before in
-    simp
-    (sym (m .starts-with .ensures .0) ∙ c .before .before .before .before .if1 .left, sym (c .before .before .starts-with2 .ensures .0) ∙ c .before .if3 .taken, ne-eqb _ _ (c .if4 .left))
+    simp (
+      sym (m .starts-with .ensures .0) ∙ c .before .before .before .before .if1 .left,
+      sym (c .before .before .starts-with2 .ensures .0) ∙ c .before .if3 .taken,
+      ne-eqb _ _ (c .if4 .left),
+    )
 
 returns-5 : tie.Need-returns-5
 unfolding otherOf
 returns-5 c =
     let m = c .before .before .before .before in
-    simp (sym (m .starts-with .ensures .0) ∙ c .before .before .before .if1 .left, sym (c .before .starts-with2 .ensures .0) ∙ c .if3 .left)
+    simp (
+      sym (m .starts-with .ensures .0) ∙ c .before .before .before .if1 .left,
+      sym (c .before .starts-with2 .ensures .0) ∙ c .if3 .left,
+    )
 
 pub other-spec : {M : Type 1} → statement M
 other-spec =

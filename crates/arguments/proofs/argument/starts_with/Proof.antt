@@ -28,14 +28,16 @@ returns-2 : tie.Need-returns-2 Inv-loop μ-loop
 returns-2 c =
     let l = c .before .before .before .before in
     let a = l .before .before .args in
-    let e = next-byte (a .p .now) (a .s .now) (l .loop .i) (c .before .before .before .loop-test .taken) (omega arith) in
+    let e =
+    next-byte (a .p .now) (a .s .now) (l .loop .i) (c .before .before .before .loop-test .taken) (omega arith) in
     (rw (ne-eqb _ _ (c .if2 .taken)) at (sym e ∙ l .loop .inv .1), λ e. absurd (false≢true e))
 
 loop-again : tie.Need-loop-again Inv-loop μ-loop
 loop-again c =
     let l = c .before .before .before .before in
     let a = l .before .before .args in
-    let e = next-byte (a .p .now) (a .s .now) (l .loop .i) (c .before .before .before .loop-test .taken) (omega arith) in
+    let e =
+    next-byte (a .p .now) (a .s .now) (l .loop .i) (c .before .before .before .loop-test .taken) (omega arith) in
     (omega arith, rw (eq-eqb _ _ (c .if2 .left)) at (sym e ∙ l .loop .inv .1))
 
 returns-3 : tie.Need-returns-3 Inv-loop μ-loop
@@ -46,4 +48,5 @@ returns-3 c =
 pub starts-with-spec : {M : Type 1} → statement M
 starts-with-spec =
     tie.close
-    (tie.spec Inv-loop μ-loop returns loop-holds (search needs) (search needs) returns-2 (search needs) (search needs) loop-again returns-3)
+    (tie.spec Inv-loop μ-loop returns loop-holds (search needs) (search needs) returns-2 (search needs) (search needs)
+    loop-again returns-3)

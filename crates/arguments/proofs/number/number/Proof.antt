@@ -17,7 +17,8 @@ use Rattle.arguments.proofs.number.number.Statement.{statement}
 use Rattle.arguments.proofs.number.number.Tie as tie
 
 abbrev Inv-loop : tie.InvT-loop
-Inv-loop s base most v₀ i₀ v i = (i ≤ length s) × (v < 4294967296) × (numberFrom base most v (drop i s) ≡ numberOf base most s)
+Inv-loop s base most v₀ i₀ v i =
+    (i ≤ length s) × (v < 4294967296) × (numberFrom base most v (drop i s) ≡ numberOf base most s)
 
 abbrev μ-loop : tie.MeasureT-loop
 μ-loop s base most v₀ i₀ v i = length s - i
@@ -44,8 +45,12 @@ module _ (c : tie.After-digit Inv-loop μ-loop) where
   most = wide (l .loop .inv .1) (start .pre)
 
   -- what the whole text spells, by this digit
-  next : cond (ltb (c .digit .result) (start .args .base)) (cond (leb value (start .args .most)) (numberFrom (start .args .base) (start .args .most) value (drop (l .loop .i + 1) text)) Malformed) Malformed ≡ numberOf (start .args .base) (start .args .most) text
-  next = sym (next-digit _ _ text (l .loop .i) (l .loop .v) (c .digit .result) (c .before .before .loop-test .taken) (c .digit .ensures .0)) ∙ l .loop .inv .2
+  next : cond (ltb (c .digit .result) (start .args .base)) (cond (leb value (start .args .most))
+      (numberFrom (start .args .base) (start .args .most) value (drop (l .loop .i + 1) text)) Malformed) Malformed
+      ≡ numberOf (start .args .base) (start .args .most) text
+  next =
+      sym (next-digit _ _ text (l .loop .i) (l .loop .v) (c .digit .result) (c .before .before .loop-test .taken)
+      (c .digit .ensures .0)) ∙ l .loop .inv .2
 
 returns : tie.Need-returns Inv-loop μ-loop
 returns c = sym (no-digits _ _ _ (c .if1 .taken))
@@ -69,7 +74,12 @@ cast-v : tie.Need-cast-v Inv-loop μ-loop
 cast-v c = record { fits = omega (arith, c .if3 .left) }
 
 loop-again : tie.Need-loop-again Inv-loop μ-loop
-loop-again c = (omega arith, omega (arith, c .if3 .left), rw (lt-ltb _ _ (c .before .if2 .left), le-leb _ _ (c .if3 .left)) at (next (c .before .before)))
+loop-again c = (
+  omega arith,
+  omega (arith, c .if3 .left),
+  rw (lt-ltb _ _ (c .before .if2 .left), le-leb _ _ (c .if3 .left))
+      at (next (c .before .before)),
+)
 
 returns-4 : tie.Need-returns-4 Inv-loop μ-loop
 returns-4 c =

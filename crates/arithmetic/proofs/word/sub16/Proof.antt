@@ -26,7 +26,8 @@ returns c =
       c .before .before .wrapping-sub .ensures,
       difference (a .x) (a .m) (omega arith),
       Bool·not-not,
-      borrow-test 15 (a .x) (a .m) ((a .x + 65536 - a .m) % 65536) (a .m) false (omega arith) (omega arith) (omega arith) refl,
+      borrow-test 15 (a .x) (a .m) ((a .x + 65536 - a .m) % 65536) (a .m) false (omega arith) (omega arith)
+          (omega arith) refl,
     )
 
 pub sub16-spec : {M : Type 1} → statement M

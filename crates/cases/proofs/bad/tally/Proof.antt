@@ -1,4 +1,5 @@
--- The loop of `tally` ends: its index stays at or below 256, the number of second bytes tried, and the measure is how many are left.
+-- The loop of `tally` ends: its index stays at or below 256, the number of second bytes tried, and the measure is how
+-- many are left.
 -- Assumes nothing.
 use borrow.Author.Needs.{needs}
 use native.Mathlib.Omega.{arith}

@@ -15,7 +15,10 @@ abbrev μ-loop : tie.MeasureT-loop
 μ-loop mem₀ at bytes i₀ i-end mem i = length bytes - i
 
 loop-again : tie.Need-loop-again Inv-loop μ-loop
-loop-again c = (c .before .before .put .kept .0 ∙ c .before .before .before .before .before .before .before .loop .inv .0, omega arith)
+loop-again c = (
+  c .before .before .put .kept .0 ∙ c .before .before .before .before .before .before .before .loop .inv .0,
+  omega arith,
+)
 
 pub load-spec : {M : Type 1} → statement M
 load-spec =

@@ -1,5 +1,5 @@
--- `find` meets its contract. The loop's invariant: the elements below `low` are lower than the address, those from `high` on are not.
--- The measure is the distance of the two.
+-- `find` meets its contract. The loop's invariant: the elements below `low` are lower than the address, those from
+-- `high` on are not. The measure is the distance of the two.
 -- Assumes nothing.
 use Prim.Native.Nat.{_-_}
 use borrow.Author.Needs.{needs}
@@ -33,7 +33,8 @@ returns c =
 returns-2 : tie.Need-returns-2 Inv-loop μ-loop
 returns-2 c =
     let l = c .before .before .before .before in
-    ends-other _ _ (l .before .pre) (l .loop .inv) (c .before .before .before .loop-test .left) (c .before .before .if2 .taken) (c .if3 .left)
+    ends-other _ _ (l .before .pre) (l .loop .inv) (c .before .before .before .loop-test .left)
+    (c .before .before .if2 .taken) (c .if3 .left)
 
 returns-3 : tie.Need-returns-3 Inv-loop μ-loop
 returns-3 c = ends-past _ _ (c .before .before .loop .inv) (c .if2 .left)

@@ -40,8 +40,14 @@ returns-2 c =
     let p = w .before .before .before .before in
     let d = p .before .before in
     let h = found d ∙ p .place .given .1 in
-    simp
-    (there-shape (bytes d) h, there-size (bytes d) h, ← add-assoc, ← w .before .before .byte-in3 .ensures, ← w .before .byte-in4 .ensures, ← w .byte-in5 .ensures)
+    simp (
+      there-shape (bytes d) h,
+      there-size (bytes d) h,
+      ← add-assoc,
+      ← w .before .before .byte-in3 .ensures,
+      ← w .before .byte-in4 .ensures,
+      ← w .byte-in5 .ensures,
+    )
     (c .shape-found .ensures)
 
 pub shape-at-spec : {M : Type 1} → statement M
@@ -49,7 +55,8 @@ shape-at-spec =
     tie.close
     (tie.spec (search needs) (search needs) (search needs) (search needs) (search needs)
     (λ c κs. search needs)
-    (search needs) (search needs) (search needs) (search needs) (search needs) (search needs) (search needs) (search needs)
+    (search needs) (search needs) (search needs) (search needs) (search needs) (search needs) (search needs)
+    (search needs)
     (search needs)
     shape-found-requires
     returns

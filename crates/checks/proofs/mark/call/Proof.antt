@@ -10,4 +10,8 @@ call-spec =
     (tie.spec
     (search needs) (search needs) (search needs) (search needs) (search needs)
     (λ c. search needs) (λ c. search needs)
-    (λ c. simp (c .before .before .before .before .before .a .given .1, c .before .before .b .given .1, c .called .ensures)))
+    (λ c. simp (
+      c .before .before .before .before .before .a .given .1,
+      c .before .before .b .given .1,
+      c .called .ensures,
+    )))

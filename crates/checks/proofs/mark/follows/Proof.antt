@@ -14,7 +14,8 @@ returns-2 : tie.Need-returns-2
 returns-2 c =
     let depth = c .before .before .before in
     simp (
-      passes (both (depth .before .before .depth-agrees .ensures) (depth .before .depth-agrees2 .ensures)) (depth .if1 .left),
+      passes (both (depth .before .before .depth-agrees .ensures) (depth .before .depth-agrees2 .ensures))
+          (depth .if1 .left),
       fails (both (c .before .before .cost-covers .ensures) (c .before .cost-covers2 .ensures)) (c .if2 .taken),
     )
 
@@ -23,8 +24,10 @@ returns-3 c =
     let cost = c .before .before .before in
     let depth = cost .before .before .before in
     simp (
-      passes (both (depth .before .before .depth-agrees .ensures) (depth .before .depth-agrees2 .ensures)) (depth .if1 .left),
-      passes (both (cost .before .before .cost-covers .ensures) (cost .before .cost-covers2 .ensures)) (cost .if2 .left),
+      passes (both (depth .before .before .depth-agrees .ensures) (depth .before .depth-agrees2 .ensures))
+          (depth .if1 .left),
+      passes (both (cost .before .before .cost-covers .ensures) (cost .before .cost-covers2 .ensures))
+          (cost .if2 .left),
       fails (both (c .before .before .need-covers .ensures) (c .before .need-covers2 .ensures)) (c .if3 .taken),
     )
 
@@ -33,8 +36,10 @@ returns-4 c =
     let cost = c .before .before .before in
     let depth = cost .before .before .before in
     simp (
-      passes (both (depth .before .before .depth-agrees .ensures) (depth .before .depth-agrees2 .ensures)) (depth .if1 .left),
-      passes (both (cost .before .before .cost-covers .ensures) (cost .before .cost-covers2 .ensures)) (cost .if2 .left),
+      passes (both (depth .before .before .depth-agrees .ensures) (depth .before .depth-agrees2 .ensures))
+          (depth .if1 .left),
+      passes (both (cost .before .before .cost-covers .ensures) (cost .before .cost-covers2 .ensures))
+          (cost .if2 .left),
       passes (both (c .before .before .need-covers .ensures) (c .before .need-covers2 .ensures)) (c .if3 .left),
     )
 

@@ -48,5 +48,6 @@ mark-cause-spec =
     tie.close
     (tie.spec
     returns
-    (search needs) (search needs) (search needs) (search needs) (search needs) (search needs) (search needs) (search needs)
+    (search needs) (search needs) (search needs) (search needs) (search needs) (search needs) (search needs)
+    (search needs)
     returns-2 returns-3 returns-4 returns-5 returns-6)

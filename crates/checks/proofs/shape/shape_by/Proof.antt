@@ -7,9 +7,12 @@ use Rattle.checks.proofs.shape.shape_by.Tie as tie
 pub shape-by-spec : {M : Type 1} → statement M
 shape-by-spec =
     tie.close
-    (tie.spec (search needs) (search needs) (search needs) (search needs) (search needs) (search needs) (search needs) (search needs)
-    (search needs) (search needs) (search needs) (search needs) (search needs) (search needs) (search needs) (search needs)
-    (search needs) (search needs) (search needs) (search needs) (search needs) (search needs) (search needs) (search needs)
+    (tie.spec (search needs) (search needs) (search needs) (search needs) (search needs) (search needs) (search needs)
+    (search needs)
+    (search needs) (search needs) (search needs) (search needs) (search needs) (search needs) (search needs)
+    (search needs)
+    (search needs) (search needs) (search needs) (search needs) (search needs) (search needs) (search needs)
+    (search needs)
     (search needs) (search needs) (search needs) (search needs) (search needs)
     (λ c. simp (c .leads .ensures, c .before .enum-told .given .1))
     (λ c. simp (c .writes-byte .ensures, c .before .before .f .given .1))

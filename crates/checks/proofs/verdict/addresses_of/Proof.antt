@@ -1,4 +1,5 @@
--- `addresses_of` meets its contract. The loop's invariant: the first i elements are the addresses of the first i marks. The measure is how many marks are left.
+-- `addresses_of` meets its contract. The loop's invariant: the first i elements are the addresses of the first i marks.
+-- The measure is how many marks are left.
 -- Assumes nothing.
 use borrow.Author.Needs.{needs}
 use Prim.Native.Nat.{_-_, _≤_}
@@ -24,13 +25,16 @@ loop-holds c = (omega arith, refl, refl)
 loop-again : tie.Need-loop-again Inv-loop μ-loop
 loop-again c =
     let l = c .before .before in
-    let next = addresses-next (l .before .before .before .args .t .marks) (l .loop .r) (l .loop .i) (search needs) (search needs) (l .loop .inv .1) in
+    let next =
+    addresses-next (l .before .before .before .args .t .marks) (l .loop .r) (l .loop .i) (search needs)
+    (search needs) (l .loop .inv .1) in
     (search needs, rw add-one next, search needs)
 
 returns : tie.Need-returns Inv-loop μ-loop
 unfolding fieldsOf
 returns c =
-    let all : c .before .loop .i ≡ c .before .before .before .before .args .t .count = omega arith in rw (← all) (c .before .loop .inv .1)
+    let all : c .before .loop .i ≡ c .before .before .before .before .args .t .count =
+    omega arith in rw (← all) (c .before .loop .inv .1)
 
 pub addresses-of-spec : {M : Type 1} → statement M
 addresses-of-spec =

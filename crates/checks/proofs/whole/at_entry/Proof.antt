@@ -19,7 +19,12 @@ returns-3 c =
     let need = c .before in
     let cost = need .before .before .before in
     let depth = cost .before .before .before in
-    simp (eq-eqb _ _ (depth .if1 .left), le-leb _ _ (cost .if2 .left), lt-leb _ _ (need .if3 .taken), c .refuse3 .ensures)
+    simp (
+      eq-eqb _ _ (depth .if1 .left),
+      le-leb _ _ (cost .if2 .left),
+      lt-leb _ _ (need .if3 .taken),
+      c .refuse3 .ensures,
+    )
 
 returns-4 : tie.Need-returns-4
 returns-4 c =

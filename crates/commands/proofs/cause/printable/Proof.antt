@@ -1,4 +1,5 @@
--- `printable` meets its contract. The loop's invariant: the text is printable if what is left of it is. The measure is what is left.
+-- `printable` meets its contract. The loop's invariant: the text is printable if what is left of it is. The measure is
+-- what is left.
 -- Assumes nothing.
 use mathlib.Core.Path.{_≡_, refl, sym, _∙_}
 use native.Mathlib.Omega.{arith}
@@ -19,12 +20,14 @@ abbrev μ-loop : tie.MeasureT-loop
 returns : tie.Need-returns Inv-loop μ-loop
 returns c =
     let l = c .before .before .before .loop in
-    sym (unprintable (l .left) (l .t) (omega arith) (sym (c .before .between .ensures) ∙ not-true _ (c .if1 .taken))) ∙ l .inv
+    sym (unprintable (l .left) (l .t) (omega arith) (sym (c .before .between .ensures) ∙ not-true _ (c .if1 .taken))) ∙
+    l .inv
 
 loop-again : tie.Need-loop-again Inv-loop μ-loop
 loop-again c =
     let l = c .before .before .before .loop in
-    sym (printable-rest (l .left) (l .t) (omega arith) (sym (c .before .between .ensures) ∙ not-false _ (c .if1 .left))) ∙ l .inv
+    sym (printable-rest (l .left) (l .t) (omega arith) (sym (c .before .between .ensures) ∙ not-false _ (c .if1 .left)))
+    ∙ l .inv
 
 returns-2 : tie.Need-returns-2 Inv-loop μ-loop
 returns-2 c =

@@ -30,8 +30,14 @@ unfolding rangesHold
 returns c =
     let r = c .before .before .before .before .before .before .before .before in
     let v = r .before .before .operands-of in
-    rw (c .before .before .before .in-range .ensures, c .before .before .in-range2 .ensures, c .before .in-range3 .ensures, c .in-range4 .ensures)
-    (row-ranges (commandByteOf (command r)) _ (is-row r) (operandsOf (command r)) (said (command r) .as-many) (v .result) (v .ensures) (omega arith, omega arith, omega arith, omega arith))
+    rw (
+      c .before .before .before .in-range .ensures,
+      c .before .before .in-range2 .ensures,
+      c .before .in-range3 .ensures,
+      c .in-range4 .ensures,
+    )
+    (row-ranges (commandByteOf (command r)) _ (is-row r) (operandsOf (command r)) (said (command r) .as-many)
+    (v .result) (v .ensures) (omega arith, omega arith, omega arith, omega arith))
 
 pub ranges-hold-spec : {M : Type 1} → statement M
 ranges-hold-spec =

@@ -8,6 +8,12 @@ pub separate-spec : {M : Type 1} → statement M
 separate-spec =
     tie.close
     (tie.spec
-    (search needs) (search needs) (search needs) (search needs) (search needs) (search needs) (search needs) (search needs)
-    (λ c. simp (c .before .before .before .before .c .given .1, c .before .before .apart .ensures, c .before .apart2 .ensures, c .apart3 .ensures))
+    (search needs) (search needs) (search needs) (search needs) (search needs) (search needs) (search needs)
+    (search needs)
+    (λ c. simp (
+      c .before .before .before .before .c .given .1,
+      c .before .before .apart .ensures,
+      c .before .apart2 .ensures,
+      c .apart3 .ensures,
+    ))
     (λ c. search needs) (λ c. search needs) (λ c. search needs) (λ c. search needs))

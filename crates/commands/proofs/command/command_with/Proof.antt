@@ -1,4 +1,5 @@
--- `command::command_with` meets its contract: by the byte that was matched. That no cast loses anything is the widths of its row.
+-- `command::command_with` meets its contract: by the byte that was matched. That no cast loses anything is the widths
+-- of its row.
 -- Assumes nothing.
 use mathlib.Core.Path.{_≡_}
 use Prim.Native.Nat.{_<_}

@@ -25,7 +25,8 @@ use Rattle.commands.proofs.encode.put_command.Statement.{statement}
 use Rattle.commands.proofs.encode.put_command.Tie as tie
 
 row-of-requires : tie.Need-row-of-requires
-row-of-requires c κs = rw (c .before .byte-of .ensures) (ltb-true _ _ (said (c .before .before .before .args .c) .known-byte))
+row-of-requires c κs =
+    rw (c .before .byte-of .ensures) (ltb-true _ _ (said (c .before .before .before .args .c) .known-byte))
 
 cons : {x y : ℕ} {s t : List ℕ} → x ≡ y → s ≡ t → x ∷ s ≡ y ∷ t
 cons e f = rw (e, f)
@@ -51,18 +52,23 @@ module _ (r : tie.After-row-of) where
   widths = row-widths (commandByteOf command) row is-row
 
   -- there is room for the byte and the four operands
-  room : r .before .before .before .before .args .at + 1 + row .first .width + row .second .width + row .third .width + row .fourth .width ≤ length (r .before .before .before .before .args .out .now)
+  room : r .before .before .before .before .args .at + 1 + row .first .width + row .second .width + row .third .width +
+      row .fourth .width ≤ length (r .before .before .before .before .args .out .now)
   unfolding widthOf
   room = omega (arith, sizes)
 
   encoded :
       r .before .before .byte-of .result
-      ∷ ((digits (row .first .width) (values .first) ++ digits (row .second .width) (values .second)) ++ (digits (row .third .width) (values .third) ++ digits (row .fourth .width) (values .fourth)))
+      ∷ ((digits (row .first .width) (values .first) ++ digits (row .second .width) (values .second)) ++
+      (digits (row .third .width) (values .third) ++ digits (row .fourth .width) (values .fourth)))
       ≡ encodeOf command
   unfolding encodeOf
-  encoded = cons (r .before .before .byte-of .ensures) (row-joined (commandByteOf command) row is-row (operandsOf command) (said command .as-many) values (r .before .operands-of .ensures))
+  encoded =
+      cons (r .before .before .byte-of .ensures) (row-joined (commandByteOf command) row is-row (operandsOf command)
+      (said command .as-many) values (r .before .operands-of .ensures))
 
-  whole : r .before .before .before .before .args .at + 1 + row .first .width + row .second .width + row .third .width + row .fourth .width ≡ r .before .before .before .before .args .at + widthOf command
+  whole : r .before .before .before .before .args .at + 1 + row .first .width + row .second .width + row .third .width +
+      row .fourth .width ≡ r .before .before .before .before .args .at + widthOf command
   unfolding widthOf
   whole = omega (arith, sizes)
 
@@ -76,8 +82,18 @@ returns c =
     let n₂ = c .before .before .put-pair2 in
     let fits = room r in
     let p₀ = placed-byte (a .out .now) (a .at) (r .before .before .byte-of .result) (omega arith) in
-    let p₁ = placed-next {m = n₁ .result} p₀ (omega arith) (digits (w .first .width) (v .first) ++ digits (w .second .width) (v .second)) (n₁ .ensures .0, simp (length-append, length-digits) (omega arith)) in
-    let p₂ = placed-next {m = n₂ .result} p₁ (omega arith) (digits (w .third .width) (v .third) ++ digits (w .fourth .width) (v .fourth)) (n₂ .ensures .0, simp (length-append, length-digits) (omega arith)) in
+    let p₁ =
+    placed-next {m = n₁ .result} p₀ (omega arith) (digits (w .first .width) (v .first) ++
+    digits (w .second .width) (v .second)) (
+      n₁ .ensures .0,
+      simp (length-append, length-digits) (omega arith),
+    ) in
+    let p₂ =
+    placed-next {m = n₂ .result} p₁ (omega arith) (digits (w .third .width) (v .third) ++
+    digits (w .fourth .width) (v .fourth)) (
+      n₂ .ensures .0,
+      simp (length-append, length-digits) (omega arith),
+    ) in
     (p₂ .bytes ∙ ap (λ (s : List ℕ). spliced (a .out .now) (a .at) s) (encoded r), omega (arith, whole r))
 
 pub put-command-spec : {M : Type 1} → statement M
@@ -89,7 +105,22 @@ put-command-spec =
     row-of-requires
     (λ c. omega (arith, room (c .before .before .before .before)))
     (search needs)
-    (λ c κs. let r = c .before .before .before .before .before in (widths r .0, widths r .1, simp length-set (omega (arith, room r))))
-    (λ c κs. let r = c .before .before .before .before .before .before .before .before .before in (widths r .2, widths r .3, omega (arith, room r, length-set (r .before .before .before .before .args .out .now) (r .before .before .before .before .args .at) (r .before .before .byte-of .result))))
-    (λ c. let r = c .before .before .before .before .before .before .before .before .before .before .before .before in omega (arith, length-set (r .before .before .before .before .args .out .now) (r .before .before .before .before .args .at) (r .before .before .byte-of .result)))
+    (λ c κs. let r = c .before .before .before .before .before in
+    (widths r .0, widths r .1, simp length-set (omega (arith, room r))))
+    (λ c κs. let r = c .before .before .before .before .before .before .before .before .before in (
+      widths r .2,
+      widths r .3,
+      omega (
+        arith,
+        room r,
+        length-set (r .before .before .before .before .args .out .now)
+            (r .before .before .before .before .args .at) (r .before .before .byte-of .result),
+      ),
+    ))
+    (λ c. let r = c .before .before .before .before .before .before .before .before .before .before .before .before in
+    omega (
+      arith,
+      length-set (r .before .before .before .before .args .out .now)
+          (r .before .before .before .before .args .at) (r .before .before .byte-of .result),
+    ))
     returns)

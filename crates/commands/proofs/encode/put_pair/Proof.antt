@@ -15,6 +15,8 @@ put-pair-spec =
     let a = c .before .before .before .before .before .before .before .before .before .args in
     let n₁ = c .before .before .before .before .before .before .put-number in
     let n₂ = c .before .before .put-number2 in
-    let p₁ = placed-digits {m = n₁ .result} (placed-none (a .out .now) (a .at)) (omega arith) (a .o .width) (a .v) (n₁ .ensures) in
+    let p₁ =
+    placed-digits {m = n₁ .result} (placed-none (a .out .now) (a .at)) (omega arith) (a .o .width) (a .v)
+    (n₁ .ensures) in
     let p₂ = placed-digits {m = n₂ .result} p₁ (omega arith) (a .p .width) (a .w) (n₂ .ensures) in
     (p₂ .bytes, omega arith)))

@@ -20,8 +20,10 @@ row-of-requires c κs = rw (c .byte-of .ensures) (ltb-true _ _ (said (c .before 
 small : (r : tie.After-row-of) → codeSize (r .row-of .result) ≤ 10
 small r = row-small (r .before .byte-of .result) _ (r .row-of .ensures)
 
-sizes : (r : tie.After-row-of) → codeSize (r .row-of .result) ≡ sizeOf (rowOf (commandByteOf (r .before .before .args .c)))
-sizes r = row-sizes (commandByteOf (r .before .before .args .c)) _ (rw (r .before .byte-of .ensures) at (r .row-of .ensures))
+sizes : (r : tie.After-row-of) → codeSize (r .row-of .result)
+    ≡ sizeOf (rowOf (commandByteOf (r .before .before .args .c)))
+sizes r =
+    row-sizes (commandByteOf (r .before .before .args .c)) _ (rw (r .before .byte-of .ensures) at (r .row-of .ensures))
 
 pub width-of-spec : {M : Type 1} → statement M
 unfolding widthOf

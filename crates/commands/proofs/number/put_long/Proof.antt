@@ -17,5 +17,8 @@ put-long-spec =
     (λ c.
     let s = c .before .before .before .before .before .before .before .before .before in
     let a = s .args in
-    let high = placed-digits {m = a .at + 2} (placed-none (a .out .now) (a .at)) (omega arith) 2 _ (c .before .before .before .before .before .before .put-word .ensures, refl) in
-    rw (← digits-long (a .v)) (placed-digits {m = a .at + 4} high (omega arith) 2 (a .v) (c .before .before .put-word2 .ensures, omega arith) .bytes)))
+    let high =
+    placed-digits {m = a .at + 2} (placed-none (a .out .now) (a .at)) (omega arith) 2 _
+    (c .before .before .before .before .before .before .put-word .ensures, refl) in
+    rw (← digits-long (a .v)) (placed-digits {m = a .at + 4} high (omega arith) 2 (a .v)
+    (c .before .before .put-word2 .ensures, omega arith) .bytes)))

@@ -22,7 +22,10 @@ put-number-spec =
     (search needs)
     (λ c κs. omega (arith, eight (c .before)))
     (λ c. omega (arith, eight (c .before .before .before .before)))
-    (λ c. rw (c .match .keys1) (placed-none (c .before .before .args .out .now) (c .before .before .args .at) .bytes, omega arith))
+    (λ c. rw (c .match .keys1) (
+      placed-none (c .before .before .args .out .now) (c .before .before .args .at) .bytes,
+      omega arith,
+    ))
     (search needs)
     (λ c. rw (c .before .before .before .before .match .keys2) (c .before .before .put-word .ensures, refl))
     (search needs)

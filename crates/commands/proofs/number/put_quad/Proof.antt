@@ -17,5 +17,8 @@ put-quad-spec =
     (λ c.
     let s = c .before .before .before .before .before .before .before .before .before in
     let a = s .args in
-    let high = placed-digits {m = a .at + 4} (placed-none (a .out .now) (a .at)) (omega arith) 4 _ (c .before .before .before .before .before .before .put-long .ensures, refl) in
-    rw (← digits-quad (a .v)) (placed-digits {m = a .at + 8} high (omega arith) 4 (a .v) (c .before .before .put-long2 .ensures, omega arith) .bytes)))
+    let high =
+    placed-digits {m = a .at + 4} (placed-none (a .out .now) (a .at)) (omega arith) 4 _
+    (c .before .before .before .before .before .before .put-long .ensures, refl) in
+    rw (← digits-quad (a .v)) (placed-digits {m = a .at + 8} high (omega arith) 4 (a .v)
+    (c .before .before .put-long2 .ensures, omega arith) .bytes)))

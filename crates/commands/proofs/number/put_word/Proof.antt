@@ -18,4 +18,5 @@ put-word-spec =
     (search needs)
     (λ c.
     let a = c .args in
-    placed-next {m = a .at + 2} (placed-byte (a .out .now) (a .at) _ (omega arith)) (omega arith) (_ ∷ []) (set-spliced _ _ _ (simp length-set (omega arith)), omega arith) .bytes))
+    placed-next {m = a .at + 2} (placed-byte (a .out .now) (a .at) _ (omega arith)) (omega arith) (_ ∷ [])
+    (set-spliced _ _ _ (simp length-set (omega arith)), omega arith) .bytes))

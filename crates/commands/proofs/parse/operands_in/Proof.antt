@@ -14,7 +14,10 @@ operands-in-spec =
     (λ c κs. (c .before .before .before .before .before .before .before .pre .0 .0, omega arith))
     (λ c κs. (c .before .before .before .before .before .before .before .before .pre .0 .1, omega arith))
     (λ c κs. (c .before .before .before .before .before .before .before .before .before .pre .0 .2, omega arith))
-    (λ c κs. (c .before .before .before .before .before .before .before .before .before .before .pre .0 .3, omega arith))
+    (λ c κs. (
+      c .before .before .before .before .before .before .before .before .before .before .pre .0 .3,
+      omega arith,
+    ))
     (λ c.
     let n₁ = c .before .before .before .number .ensures in
     let n₂ = c .before .before .number2 .ensures in

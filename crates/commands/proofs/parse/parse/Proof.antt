@@ -44,19 +44,35 @@ returns-3 c =
     let s = r .before .before .before .before .before .args .s .now in
     sym (
     ap parseOf (drop-cons s 0 0 (omega arith))
-    ∙ simp (lt-ltb (getD s 0 0) 7 (known r), ← sizes r, ← c .before .size .ensures, length-drop, lt-leb _ _ (c .if3 .taken)))
+    ∙ simp (
+      lt-ltb (getD s 0 0) 7 (known r),
+      ← sizes r,
+      ← c .before .size .ensures,
+      length-drop,
+      lt-leb _ _ (c .if3 .taken),
+    ))
 
 returns-4 : tie.Need-returns-4
 unfolding parseOf commandOf
 returns-4 c =
     let r = c .before .before .before .before .before in
     let s = r .before .before .before .before .before .args .s .now in
-    let part : take (length s - 1) (drop 1 s) ≡ drop 1 s = take-all (length s - 1) (drop 1 s) (omega (arith, length-drop 1 s)) in
-    let ops = (rw part at (c .before .operands-in .ensures .0)) ∙ row-values (byte r) _ (r .row-of .ensures) (drop 1 s) in
-    let made : c .command-with .result ≡ commandOf (byte r) (drop 1 s) = c .command-with .ensures ∙ ap (λ (v : Operands). commandWith (byte r) (valuesOf v)) ops in
+    let part : take (length s - 1) (drop 1 s) ≡ drop 1 s =
+    take-all (length s - 1) (drop 1 s) (omega (arith, length-drop 1 s)) in
+    let ops =
+    (rw part at (c .before .operands-in .ensures .0)) ∙ row-values (byte r) _ (r .row-of .ensures) (drop 1 s) in
+    let made : c .command-with .result ≡ commandOf (byte r) (drop 1 s) =
+    c .command-with .ensures ∙ ap (λ (v : Operands). commandWith (byte r) (valuesOf v)) ops in
     sym (
     ap parseOf (drop-cons s 0 0 (omega arith))
-    ∙ simp (lt-ltb (getD s 0 0) 7 (known r), ← sizes r, ← c .before .before .before .before .size .ensures, length-drop, le-leb _ _ (c .before .before .before .if3 .left), made))
+    ∙ simp (
+      lt-ltb (getD s 0 0) 7 (known r),
+      ← sizes r,
+      ← c .before .before .before .before .size .ensures,
+      length-drop,
+      le-leb _ _ (c .before .before .before .if3 .left),
+      made,
+    ))
 
 pub parse-spec : {M : Type 1} → statement M
 parse-spec =
@@ -74,7 +90,17 @@ parse-spec =
     (search needs)
     (λ c κs.
     let r = c .before .before .before in
-    let e = r .row-of .ensures in
-    (row-widths (byte r) _ e, omega (arith, length-drop 1 (r .before .before .before .before .before .args .s .now), c .before .before .size .ensures), row-small (byte r) _ e))
-    (λ c κs. let r = c .before .before .before .before in (known r, row-fits (byte r) _ (r .row-of .ensures) _ (c .operands-in .ensures .1)))
+    let e = r .row-of .ensures in (
+      row-widths (byte r) _ e,
+      omega (
+        arith,
+        length-drop 1 (r .before .before .before .before .before .args .s .now),
+        c .before .before .size .ensures,
+      ),
+      row-small (byte r) _ e,
+    ))
+    (λ c κs. let r = c .before .before .before .before in (
+      known r,
+      row-fits (byte r) _ (r .row-of .ensures) _ (c .operands-in .ensures .1),
+    ))
     returns-4)

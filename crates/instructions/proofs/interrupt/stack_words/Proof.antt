@@ -6,4 +6,5 @@ use Rattle.instructions.proofs.interrupt.stack_words.Tie as tie
 
 pub stack-words-spec : {M : Type 1} → statement M
 stack-words-spec =
-    tie.close (tie.spec (search needs) (search needs) (search needs) (search needs) (search needs) (search needs) (λ c. (cc, search needs)))
+    tie.close (tie.spec (search needs) (search needs) (search needs) (search needs) (search needs) (search needs)
+    (λ c. (cc, search needs)))

@@ -9,4 +9,5 @@ pub branch-spec : {M : Type 1} → statement M
 branch-spec =
     tie.close
     (tie.spec (search needs) (search needs)
-    (λ c. goes (c .before .before .args .test) (c .before .before .args .t) (c .before .before .args .r) _ (simp (c .branch-if .ensures, c .before .holds .ensures))))
+    (λ c. goes (c .before .before .args .test) (c .before .before .args .t) (c .before .before .args .r) _
+    (simp (c .branch-if .ensures, c .before .holds .ensures))))

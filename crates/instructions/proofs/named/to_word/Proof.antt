@@ -9,7 +9,8 @@ pub to-word-spec : {M : Type 1} → statement M
 unfolding toWord
 to-word-spec =
     tie.close
-    (tie.spec (search needs) (search needs) (search needs) (search needs) (search needs) (search needs) (search needs) (search needs)
+    (tie.spec (search needs) (search needs) (search needs) (search needs) (search needs) (search needs) (search needs)
+    (search needs)
     (λ c. simp (c .before .enum-told .given .1, c .with-d .ensures))
     (λ c. simp (c .before .enum-told2 .given .1, c .with-x .ensures))
     (λ c. simp (c .before .enum-told3 .given .1, c .with-y .ensures))

@@ -12,7 +12,8 @@ pub address-spec : {M : Type 1} → statement M
 unfolding addressAt
 address-spec =
     tie.close
-    (tie.spec (search needs) (search needs) (search needs) (search needs) (search needs) (search needs) (search needs) (search needs)
+    (tie.spec (search needs) (search needs) (search needs) (search needs) (search needs) (search needs) (search needs)
+    (search needs)
     (search needs) (search needs) (search needs) (search needs) (search needs) (search needs) (search needs)
     (λ c. simp (c .match .keys1))
     (λ c. simp (c .match .keys2))

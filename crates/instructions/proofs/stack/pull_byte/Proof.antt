@@ -11,4 +11,12 @@ unfolding opened
 pull-byte-spec =
     tie.close
     (tie.spec (search needs) (search needs) (search needs) (search needs)
-    (λ c o. (simp (c .with-sp .ensures, c .before .with-accumulator .ensures, c .before .before .byte-at .ensures, c .before .before .before .wrapping-add .ensures), refl)))
+    (λ c o. (
+      simp (
+        c .with-sp .ensures,
+        c .before .with-accumulator .ensures,
+        c .before .before .byte-at .ensures,
+        c .before .before .before .wrapping-add .ensures,
+      ),
+      refl,
+    )))

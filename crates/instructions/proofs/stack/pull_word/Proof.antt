@@ -11,4 +11,13 @@ unfolding opened
 pull-word-spec =
     tie.close
     (tie.spec (search needs) (search needs) (search needs) (search needs) (search needs)
-    (λ c o. (simp (c .with-sp .ensures, c .before .wrapping-add2 .ensures, c .before .before .with-index .ensures, c .before .before .before .word-at .ensures, c .before .before .before .before .wrapping-add .ensures), refl)))
+    (λ c o. (
+      simp (
+        c .with-sp .ensures,
+        c .before .wrapping-add2 .ensures,
+        c .before .before .with-index .ensures,
+        c .before .before .before .word-at .ensures,
+        c .before .before .before .before .wrapping-add .ensures,
+      ),
+      refl,
+    )))

@@ -10,4 +10,11 @@ unfolding opened
 push-byte-spec =
     tie.close
     (tie.spec (search needs) (search needs) (search needs) (search needs) (search needs)
-    (λ c o. (simp (c .with-sp .ensures, c .before .wrapping-sub .ensures, c .before .before .before .before .before .accumulator .ensures), cc)))
+    (λ c o. (
+      simp (
+        c .with-sp .ensures,
+        c .before .wrapping-sub .ensures,
+        c .before .before .before .before .before .accumulator .ensures,
+      ),
+      cc,
+    )))

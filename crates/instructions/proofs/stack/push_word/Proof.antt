@@ -10,4 +10,11 @@ unfolding opened
 push-word-spec =
     tie.close
     (tie.spec (search needs) (search needs) (search needs) (search needs) (search needs)
-    (λ c o. (simp (c .with-sp .ensures, c .before .wrapping-sub .ensures, c .before .before .before .before .before .index-register .ensures), cc)))
+    (λ c o. (
+      simp (
+        c .with-sp .ensures,
+        c .before .wrapping-sub .ensures,
+        c .before .before .before .before .before .index-register .ensures,
+      ),
+      cc,
+    )))

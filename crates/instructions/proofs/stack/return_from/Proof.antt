@@ -11,4 +11,12 @@ unfolding opened
 return-from-spec =
     tie.close
     (tie.spec (search needs) (search needs) (search needs) (search needs)
-    (λ c o. (simp (c .with-pc-sp .ensures, c .before .wrapping-add2 .ensures, c .before .before .word-at .ensures, c .before .before .before .wrapping-add .ensures), refl)))
+    (λ c o. (
+      simp (
+        c .with-pc-sp .ensures,
+        c .before .wrapping-add2 .ensures,
+        c .before .before .word-at .ensures,
+        c .before .before .before .wrapping-add .ensures,
+      ),
+      refl,
+    )))

@@ -11,4 +11,7 @@ unfolding opened
 set-stack-spec =
     tie.close
     (tie.spec (search needs) (search needs) (search needs)
-    (λ c m o. (simp (c .with-sp .ensures, c .before .wrapping-sub .ensures, c .before .before .index-register .ensures), refl)))
+    (λ c m o. (
+      simp (c .with-sp .ensures, c .before .wrapping-sub .ensures, c .before .before .index-register .ensures),
+      refl,
+    )))

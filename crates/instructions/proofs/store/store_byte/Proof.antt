@@ -10,4 +10,11 @@ unfolding opened
 store-byte-spec =
     tie.close
     (tie.spec (search needs) (search needs) (search needs) (search needs) (search needs)
-    (λ c o s. (simp (c .with-flags .ensures, c .before .logic8 .ensures, c .before .before .before .before .before .before .accumulator .ensures), cc)))
+    (λ c o s. (
+      simp (
+        c .with-flags .ensures,
+        c .before .logic8 .ensures,
+        c .before .before .before .before .before .before .accumulator .ensures,
+      ),
+      cc,
+    )))

@@ -10,4 +10,11 @@ unfolding opened
 store-word-spec =
     tie.close
     (tie.spec (search needs) (search needs) (search needs) (search needs) (search needs)
-    (λ c o s. (simp (c .with-flags .ensures, c .before .logic16 .ensures, c .before .before .before .before .before .before .word-register .ensures), cc)))
+    (λ c o s. (
+      simp (
+        c .with-flags .ensures,
+        c .before .logic16 .ensures,
+        c .before .before .before .before .before .before .word-register .ensures,
+      ),
+      cc,
+    )))

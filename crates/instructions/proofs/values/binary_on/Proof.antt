@@ -11,4 +11,12 @@ unfolding opened
 binary-on-spec =
     tie.close
     (tie.spec (search needs) (search needs) (search needs)
-    (λ c o m v. (simp (c .with-accumulator .ensures, c .before .binary .ensures, c .before .before .accumulator .ensures, v), refl)))
+    (λ c o m v. (
+      simp (
+        c .with-accumulator .ensures,
+        c .before .binary .ensures,
+        c .before .before .accumulator .ensures,
+        v,
+      ),
+      refl,
+    )))

@@ -11,4 +11,7 @@ unfolding opened
 compare-word-spec =
     tie.close
     (tie.spec (search needs) (search needs) (search needs)
-    (λ c o m v. (simp (c .with-flags .ensures, c .before .sub16 .ensures, c .before .before .word-register .ensures, v), refl)))
+    (λ c o m v. (
+      simp (c .with-flags .ensures, c .before .sub16 .ensures, c .before .before .word-register .ensures, v),
+      refl,
+    )))

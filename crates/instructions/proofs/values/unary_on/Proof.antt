@@ -11,4 +11,7 @@ unfolding opened
 unary-on-spec =
     tie.close
     (tie.spec (search needs) (search needs) (search needs)
-    (λ c m o. (simp (c .with-accumulator .ensures, c .before .unary .ensures, c .before .before .accumulator .ensures), refl)))
+    (λ c m o. (
+      simp (c .with-accumulator .ensures, c .before .unary .ensures, c .before .before .accumulator .ensures),
+      refl,
+    )))

@@ -14,11 +14,17 @@ use Rattle.measure.proofs.flow.flow_at.Tie as tie
 abbrev called : tie.After-found-of → tie.Start
 called c = c .before .before .before .before .before .before .before
 
-found : (c : tie.After-found-of) → let z = called c .args in foundOf (bytes (z .mem .now) (z .pc) 0) (bytes (z .mem .now) (z .pc) 1) ≡ c .found-of .result
+found : (c : tie.After-found-of) → let z =
+    called c .args in foundOf (bytes (z .mem .now) (z .pc) 0) (bytes (z .mem .now) (z .pc) 1) ≡ c .found-of .result
 found c =
     let u = c .before .before .before in
-    simp
-    (plus-zero (called c .args .pc) (search needs), ← u .wrapping-add .ensures, ← u .before .byte-at .ensures, ← c .before .before .byte-at2 .ensures, ← c .found-of .ensures)
+    simp (
+      plus-zero (called c .args .pc) (search needs),
+      ← u .wrapping-add .ensures,
+      ← u .before .byte-at .ensures,
+      ← c .before .before .byte-at2 .ensures,
+      ← c .found-of .ensures,
+    )
 
 add-wrapping-add : tie.Need-add-wrapping-add
 add-wrapping-add c =
@@ -48,14 +54,22 @@ returns-2 c =
     let u = v .before .before in
     let p = u .before .before .before in
     let h = found (p .before .before) ∙ p .place .given .1 in
-    simp
-    (there-flow _ _ h, ← u .before .wrapping-add2 .ensures, ← v .before .wrapping-add3 .ensures, ← w .before .wrapping-add4 .ensures, ← u .byte-at3 .ensures, ← v .byte-at4 .ensures, ← w .byte-at5 .ensures)
+    simp (
+      there-flow _ _ h,
+      ← u .before .wrapping-add2 .ensures,
+      ← v .before .wrapping-add3 .ensures,
+      ← w .before .wrapping-add4 .ensures,
+      ← u .byte-at3 .ensures,
+      ← v .byte-at4 .ensures,
+      ← w .byte-at5 .ensures,
+    )
     (c .flow-found .ensures)
 
 pub flow-at-spec : {M : Type 1} → statement M
 flow-at-spec =
     tie.close
-    (tie.spec (search needs) (search needs) (search needs) (search needs) (λ c κs. search needs) (search needs) (search needs) (search needs) (search needs)
+    (tie.spec (search needs) (search needs) (search needs) (search needs) (λ c κs. search needs) (search needs)
+    (search needs) (search needs) (search needs)
     add-wrapping-add
     (search needs) (search needs)
     add-wrapping-add-2

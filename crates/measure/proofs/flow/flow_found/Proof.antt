@@ -13,8 +13,14 @@ returns : tie.Need-returns
 returns c =
     let d = c .before .before .before .before .before in
     let u = d .before .before .before in
-    simp
-    (c .flow-by .ensures, c .before .form-of .ensures, ← d .decode .ensures, c .before .before .before .a .given .1, u .wrapping-add .ensures, u .before .before .before .pre .1)
+    simp (
+      c .flow-by .ensures,
+      c .before .form-of .ensures,
+      ← d .decode .ensures,
+      c .before .before .before .a .given .1,
+      u .wrapping-add .ensures,
+      u .before .before .before .pre .1,
+    )
 
 returns-2 : tie.Need-returns-2
 returns-2 c = simp (← c .before .before .decode .ensures, c .enum-told .given .1)

@@ -13,8 +13,12 @@ returns c = simp (c .over .ensures, lt-ltb _ _ (c .before .if1 .taken)) (refl, o
 returns-2 : tie.Need-returns-2
 returns-2 c =
     let p = c .before .before .before .pending-after in
-    simp
-    (c .ends .ensures, p .ensures .0, c .before .before .before .before .lower .ensures, le-ltb _ _ (c .before .before .before .before .before .if1 .left))
+    simp (
+      c .ends .ensures,
+      p .ensures .0,
+      c .before .before .before .before .lower .ensures,
+      le-ltb _ _ (c .before .before .before .before .before .if1 .left),
+    )
     (refl, rw (← p .ensures .0) (p .ensures .1), omega arith)
 
 pub look-after-spec : {M : Type 1} → statement M

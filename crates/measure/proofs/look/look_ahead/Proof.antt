@@ -12,7 +12,8 @@ use Rattle.measure.proofs.look.look_ahead.Tie as tie
 
 abbrev Inv-loop : tie.InvT-loop
 Inv-loop budget m₀ l₀ i₀ m l i =
-    (i ≤ budget) × (length m ≡ 65536) × (l .pending ≤ i) × (l .left ≤ budget) × (lookFrom (budget - i) l m ≡ lookFrom budget l₀ m₀)
+    (i ≤ budget) × (length m ≡ 65536) × (l .pending ≤ i) × (l .left ≤ budget)
+    × (lookFrom (budget - i) l m ≡ lookFrom budget l₀ m₀)
 
 abbrev μ-loop : tie.MeasureT-loop
 μ-loop budget m₀ l₀ i₀ m l i = budget - i

@@ -12,15 +12,29 @@ returns : tie.Need-returns
 unfolding lookStepOf
 returns c =
     let s = c .before .before .before .before .before .before in
-    let e = ap answerOf (c .before .before .q .given .1) in
-    (simp (← s .step .ensures .0, e, ← s .step .ensures .1, c .look-after .ensures .0, ← s .before .before .flow-at .ensures), search needs, c .look-after .ensures .1, c .look-after .ensures .2)
+    let e = ap answerOf (c .before .before .q .given .1) in (
+      simp (
+        ← s .step .ensures .0,
+        e,
+        ← s .step .ensures .1,
+        c .look-after .ensures .0,
+        ← s .before .before .flow-at .ensures,
+      ),
+      search needs,
+      c .look-after .ensures .1,
+      c .look-after .ensures .2,
+    )
 
 returns-2 : tie.Need-returns-2
 unfolding lookStepOf
 returns-2 c =
     let s = c .before .before .before .before .before in
-    let e = ap answerOf (c .before .enum-told .given .1) in
-    (simp (← s .step .ensures .0, e, ← s .step .ensures .1, c .over .ensures, ← s .before .before .flow-at .ensures), search needs, rw (c .over .ensures) (omega arith), rw (c .over .ensures) (omega arith))
+    let e = ap answerOf (c .before .enum-told .given .1) in (
+      simp (← s .step .ensures .0, e, ← s .step .ensures .1, c .over .ensures, ← s .before .before .flow-at .ensures),
+      search needs,
+      rw (c .over .ensures) (omega arith),
+      rw (c .over .ensures) (omega arith),
+    )
 
 pub look-step-spec : {M : Type 1} → statement M
 look-step-spec =

@@ -14,7 +14,8 @@ use Rattle.monitor.proofs.register_bytes.pack.Tie as tie
 use Rattle.monitor.specs.inner.Put.{putWord}
 
 stored : (bs : List ℕ) → length bs ≡ 11 → (r : Registers)
-    → set (set (set (putWord (putWord (putWord (putWord bs 2 (r .x)) 4 (r .y)) 6 (r .sp)) 8 (r .pc)) 0 (r .a)) 1 (r .b)) 10 (r .flags) ≡ packed r
+    → set (set (set (putWord (putWord (putWord (putWord bs 2 (r .x)) 4 (r .y)) 6 (r .sp)) 8 (r .pc)) 0 (r .a)) 1 (r .b))
+    10 (r .flags) ≡ packed r
 unfolding packed
 stored bs h r = rw (all-elements bs 11 h)
 
@@ -33,7 +34,9 @@ eleven c =
 same-length : tie.Need-same-length
 same-length c =
     let last = c .before .before in
-    let start = last .before .before .before .before .before .before .before .before .before .before .before .before .before .before .before in
+    let start =
+    last .before .before .before .before .before .before .before .before .before .before .before .before .before
+    .before .before in
     three (last .put-word4 .last .0) _ _ _ ∙ eleven last ∙ sym (start .pre)
 
 returns : tie.Need-returns

@@ -16,7 +16,8 @@ stored : (bs : List ℕ) → length bs ≡ 24 → (c : Certificate)
     → putWord
     (putLong
     (putLong
-    (putWord (putWindow (putWindow (putWindow bs 0 (c .header .code)) 4 (c .header .«data»)) 8 (c .header .stack)) 12 (c .header .entry))
+    (putWord (putWindow (putWindow (putWindow bs 0 (c .header .code)) 4 (c .header .«data»)) 8 (c .header .stack)) 12
+    (c .header .entry))
     14
     (c .header .limit .0))
     18

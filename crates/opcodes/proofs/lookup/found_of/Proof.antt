@@ -15,27 +15,31 @@ returns c =
     let e = c .before .before .pre in
     let n = c .if1 .taken in
     let z = plain (a .first) (λ q. n (entry (a .tc .now) e (a .first) ∙ q)) in
-    there (a .first) (a .second) (a .tc .now) e (a .first) (in-first (a .first) (a .second) z) 1 (size-1 (a .first) (search needs)) n
+    there (a .first) (a .second) (a .tc .now) e (a .first) (in-first (a .first) (a .second) z) 1
+    (size-1 (a .first) (search needs)) n
 
 returns-2 : tie.Need-returns-2
 returns-2 c =
     let a = c .before .before .before .before .args in
     let z = sym (c .before .page-of .ensures .0) ∙ c .if2 .taken in
-    nowhere (a .first) (a .second) (a .tc .now) (c .before .before .before .before .pre) (a .first) (in-first (a .first) (a .second) z) (c .before .before .if1 .left)
+    nowhere (a .first) (a .second) (a .tc .now) (c .before .before .before .before .pre) (a .first)
+    (in-first (a .first) (a .second) z) (c .before .before .if1 .left)
 
 returns-3 : tie.Need-returns-3
 returns-3 c =
     let a = c .before .before .before .before .before .before .args in
     let g = c .before .before .before .page-of in
     let h = paged (a .first) (a .second) (g .result) (g .ensures .0) (c .before .before .if2 .left) in
-    nowhere (a .first) (a .second) (a .tc .now) (c .before .before .before .before .before .before .pre) (g .result + a .second) (h .0) (c .if3 .taken)
+    nowhere (a .first) (a .second) (a .tc .now) (c .before .before .before .before .before .before .pre)
+    (g .result + a .second) (h .0) (c .if3 .taken)
 
 returns-4 : tie.Need-returns-4
 returns-4 c =
     let a = c .before .before .before .before .before .before .args in
     let g = c .before .before .before .page-of in
     let h = paged (a .first) (a .second) (g .result) (g .ensures .0) (c .before .before .if2 .left) in
-    there (a .first) (a .second) (a .tc .now) (c .before .before .before .before .before .before .pre) (g .result + a .second) (h .0) 2 (h .1) (c .if3 .left)
+    there (a .first) (a .second) (a .tc .now) (c .before .before .before .before .before .before .pre)
+    (g .result + a .second) (h .0) 2 (h .1) (c .if3 .left)
 
 cast-cost : tie.Need-cast-cost
 cast-cost c =

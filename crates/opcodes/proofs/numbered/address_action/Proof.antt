@@ -53,4 +53,5 @@ address-action-spec =
     (λ c. ap actionOf (sym (c .match .keys38)))
     (λ c. ap actionOf (sym (c .match .keys39)))
     (λ c. ap actionOf (sym (c .match .keys40)))
-    (λ c. sym (List·getD-eq-default allActions Test (skipped (c .before .args .n) 97 40 (omega arith) (c .match .rest)))))
+    (λ c. sym (List·getD-eq-default allActions Test (skipped (c .before .args .n) 97 40 (omega arith)
+    (c .match .rest)))))

@@ -8,8 +8,16 @@ use Rattle.text.proofs.columns.flags.Tie as tie
 returns : tie.Need-returns
 unfolding flagsText
 returns c =
-    simp
-    (c .before .before .before .before .before .before .before .flag .ensures, c .before .before .before .before .before .before .flag2 .ensures, c .before .before .before .before .before .flag3 .ensures, c .before .before .before .before .flag4 .ensures, c .before .before .before .flag5 .ensures, c .before .before .flag6 .ensures, c .before .flag7 .ensures, c .flag8 .ensures)
+    simp (
+      c .before .before .before .before .before .before .before .flag .ensures,
+      c .before .before .before .before .before .before .flag2 .ensures,
+      c .before .before .before .before .before .flag3 .ensures,
+      c .before .before .before .before .flag4 .ensures,
+      c .before .before .before .flag5 .ensures,
+      c .before .before .flag6 .ensures,
+      c .before .flag7 .ensures,
+      c .flag8 .ensures,
+    )
 
 pub flags-spec : {M : Type 1} → statement M
 flags-spec =

@@ -5,7 +5,10 @@ use Rattle.text.proofs.last.put_home.Statement.{statement}
 use Rattle.text.proofs.last.put_home.Tie as tie
 
 returns : tie.Need-returns
-returns c = let l = c .before .before .before .before .line .ensures .0 in let p = c .before .before .put .ensures in (rw l at (p .0), rw l at (p .1), p .2)
+returns c =
+    let l =
+    c .before .before .before .before .line .ensures .0 in let p =
+    c .before .before .put .ensures in (rw l at (p .0), rw l at (p .1), p .2)
 
 pub put-home-spec : {M : Type 1} → statement M
 put-home-spec =

@@ -33,4 +33,5 @@ returns c =
     (p .0, p .1 ∙ zero-add _, omega (arith, p .1, held (c .before .before .before .before .before .before .before)))
 
 pub put-spec : {M : Type 1} → statement M
-put-spec = tie.close (tie.spec array-share-prefix-bytes slice-aggregate-put-text put-text-requires (λ c. search needs) returns)
+put-spec =
+    tie.close (tie.spec array-share-prefix-bytes slice-aggregate-put-text put-text-requires (λ c. search needs) returns)

@@ -9,7 +9,12 @@ use Rattle.text.proofs.line.with_pair.Tie as tie
 
 returns : tie.Need-returns
 unfolding pairText
-returns c = let t = c .before .before .with-field .ensures in (simp (c .with-field2 .ensures .0, t .0, append-assoc), omega (arith, c .with-field2 .ensures .1, t .1))
+returns c =
+    let t =
+    c .before .before .with-field .ensures in (
+      simp (c .with-field2 .ensures .0, t .0, append-assoc),
+      omega (arith, c .with-field2 .ensures .1, t .1),
+    )
 
 pub with-pair-spec : {M : Type 1} → statement M
 with-pair-spec =

@@ -1,4 +1,5 @@
--- `list` meets its contract: the place is the one that is found at the first two bytes, and the operand starts after one byte or two.
+-- `list` meets its contract: the place is the one that is found at the first two bytes, and the operand starts after
+-- one byte or two.
 -- Assumes nothing.
 use borrow.Author.Needs.{needs}
 use mathlib.Core.Path.{sym, _∙_}
@@ -48,7 +49,14 @@ returns-2 c =
     let p = u .before .before .before in
     let d = p .before .before in
     let h = sym (d .found-of .ensures) ∙ p .place .given .1 in
-    simp (there (bytes d) h, c .listed .ensures, u .before .bytes2 .ensures, u .wrapping-add .ensures, entry _ _ h, c .before .if1 .taken)
+    simp (
+      there (bytes d) h,
+      c .listed .ensures,
+      u .before .bytes2 .ensures,
+      u .wrapping-add .ensures,
+      entry _ _ h,
+      c .before .if1 .taken,
+    )
 
 returns-3 : tie.Need-returns-3
 returns-3 c =
@@ -57,7 +65,14 @@ returns-3 c =
     let d = p .before .before in
     let h = sym (d .found-of .ensures) ∙ p .place .given .1 in
     let two = ⊎-elim (λ e. absurd (c .before .if1 .left e)) (λ e. e) (size (bytes d) h) in
-    simp (there (bytes d) h, c .listed2 .ensures, u .before .bytes2 .ensures, u .wrapping-add .ensures, entry _ _ h, two)
+    simp (
+      there (bytes d) h,
+      c .listed2 .ensures,
+      u .before .bytes2 .ensures,
+      u .wrapping-add .ensures,
+      entry _ _ h,
+      two,
+    )
 
 pub list-spec : {M : Type 1} → statement M
 list-spec =

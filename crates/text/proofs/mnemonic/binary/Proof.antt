@@ -10,7 +10,8 @@ pub binary-spec : {M : Type 1} → statement M
 binary-spec =
     tie.close
     (tie.spec
-    (search needs) (search needs) (search needs) (search needs) (search needs) (search needs) (search needs) (search needs)
+    (search needs) (search needs) (search needs) (search needs) (search needs) (search needs) (search needs)
+    (search needs)
     (search needs) (search needs)
     (λ c. sym (ap binaryName (c .enum-told .given .1)))
     (λ c. sym (ap binaryName (c .enum-told2 .given .1)))

@@ -10,9 +10,12 @@ pub inherent-spec : {M : Type 1} → statement M
 inherent-spec =
     tie.close
     (tie.spec
-    (search needs) (search needs) (search needs) (search needs) (search needs) (search needs) (search needs) (search needs)
-    (search needs) (search needs) (search needs) (search needs) (search needs) (search needs) (search needs) (search needs)
-    (search needs) (search needs) (search needs) (search needs) (search needs) (search needs) (search needs) (search needs)
+    (search needs) (search needs) (search needs) (search needs) (search needs) (search needs) (search needs)
+    (search needs)
+    (search needs) (search needs) (search needs) (search needs) (search needs) (search needs) (search needs)
+    (search needs)
+    (search needs) (search needs) (search needs) (search needs) (search needs) (search needs) (search needs)
+    (search needs)
     (search needs) (search needs) (search needs) (search needs) (search needs) (search needs)
     (λ c. sym (ap inherentName (c .enum-told .given .1)))
     (λ c. sym (ap inherentName (c .enum-told2 .given .1)))

@@ -18,18 +18,35 @@ unfolding mnemonicOf
 mnemonic-spec =
     tie.close
     (tie.spec
-    (search needs) (search needs) (search needs) (search needs) (search needs) (search needs) (search needs) (search needs)
-    (search needs) (search needs) (search needs) (search needs) (search needs) (search needs) (search needs) (search needs)
-    (search needs) (search needs) (search needs) (search needs) (search needs) (search needs) (search needs) (search needs)
-    (search needs) (search needs) (search needs) (search needs) (search needs) (search needs) (search needs) (search needs)
-    (search needs) (search needs) (search needs) (search needs) (search needs) (search needs) (search needs) (search needs)
-    (search needs) (search needs) (search needs) (search needs) (search needs) (search needs) (search needs) (search needs)
-    (search needs) (search needs) (search needs) (search needs) (search needs) (search needs) (search needs) (search needs)
+    (search needs) (search needs) (search needs) (search needs) (search needs) (search needs) (search needs)
+    (search needs)
+    (search needs) (search needs) (search needs) (search needs) (search needs) (search needs) (search needs)
+    (search needs)
+    (search needs) (search needs) (search needs) (search needs) (search needs) (search needs) (search needs)
+    (search needs)
+    (search needs) (search needs) (search needs) (search needs) (search needs) (search needs) (search needs)
+    (search needs)
+    (search needs) (search needs) (search needs) (search needs) (search needs) (search needs) (search needs)
+    (search needs)
+    (search needs) (search needs) (search needs) (search needs) (search needs) (search needs) (search needs)
+    (search needs)
+    (search needs) (search needs) (search needs) (search needs) (search needs) (search needs) (search needs)
+    (search needs)
     (search needs) (search needs) (search needs)
     (λ c. c .inherent .ensures ∙ sym (ap (at (c .before .before .before .before)) (c .before .before .a .given .1)))
-    (λ c. simp (c .before .before .before .before .a2 .given .1, c .four .ensures, ← c .before .accumulator .ensures, ← c .before .before .unary .ensures))
+    (λ c. simp (
+      c .before .before .before .before .a2 .given .1,
+      c .four .ensures,
+      ← c .before .accumulator .ensures,
+      ← c .before .before .unary .ensures,
+    ))
     (λ c. simp (c .before .before .before .a3 .given .1, c .four2 .ensures, ← c .before .accumulator2 .ensures))
-    (λ c. simp (c .before .before .before .before .a4 .given .1, c .four3 .ensures, ← c .before .accumulator3 .ensures, ← c .before .before .binary .ensures))
+    (λ c. simp (
+      c .before .before .before .before .a4 .given .1,
+      c .four3 .ensures,
+      ← c .before .accumulator3 .ensures,
+      ← c .before .before .binary .ensures,
+    ))
     (λ c. sym (ap (at (c .before .before)) (c .enum-told .given .1)))
     (λ c. simp (c .before .before .a5 .given .1, ← c .word .ensures))
     (λ c. sym (ap (at (c .before .before)) (c .enum-told2 .given .1)))

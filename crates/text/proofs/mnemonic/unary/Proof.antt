@@ -10,7 +10,8 @@ pub unary-spec : {M : Type 1} → statement M
 unary-spec =
     tie.close
     (tie.spec
-    (search needs) (search needs) (search needs) (search needs) (search needs) (search needs) (search needs) (search needs)
+    (search needs) (search needs) (search needs) (search needs) (search needs) (search needs) (search needs)
+    (search needs)
     (search needs) (search needs)
     (λ c. sym (ap unaryName (c .enum-told .given .1)))
     (λ c. sym (ap unaryName (c .enum-told2 .given .1)))

@@ -8,4 +8,5 @@ use Rattle.text.proofs.number.glyph.Tie as tie
 pub glyph-spec : {M : Type 1} → statement M
 glyph-spec =
     tie.close
-    (tie.spec (search needs) (search needs) (λ c. simp (lt-ltb _ _ (c .if1 .taken))) (λ c. simp (le-ltb _ _ (c .if1 .left))))
+    (tie.spec (search needs) (search needs) (λ c. simp (lt-ltb _ _ (c .if1 .taken)))
+    (λ c. simp (le-ltb _ _ (c .if1 .left))))

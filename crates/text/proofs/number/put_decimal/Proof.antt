@@ -1,5 +1,5 @@
--- `put_decimal` puts the digits from the last to the first. The loop's invariant: those from i on are put, the rest are those of `left`, and the output
--- is as long as it was.
+-- `put_decimal` puts the digits from the last to the first. The loop's invariant: those from i on are put, the rest are
+-- those of `left`, and the output is as long as it was.
 -- Assumes nothing.
 use mathlib.Core.Path.{_≡_, refl}
 use Prim.Native.Nat.{_-_}
@@ -43,7 +43,8 @@ loop-less c = omega arith
 
 loop-again : tie.Need-loop-again Inv-loop μ-loop
 loop-again c =
-    let l = c .before .loop in (ending-next (l .inv .0) (l .i - 1) (omega arith) (omega arith), simp length-set (l .inv .1))
+    let l =
+    c .before .loop in (ending-next (l .inv .0) (l .i - 1) (omega arith) (omega arith), simp length-set (l .inv .1))
 
 same-length : tie.Need-same-length Inv-loop μ-loop
 same-length c = omega arith

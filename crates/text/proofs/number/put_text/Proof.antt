@@ -38,8 +38,11 @@ loop-less c = omega arith
 loop-again : tie.Need-loop-again Inv-loop μ-loop
 loop-again c =
     let l = c .before .before .loop in
-    let a = c .before .before .before .args in
-    (rw (l .inv .0, add-one) (paste-suc (a .out .now) (a .at) (a .s .now) (l .i) 0 (omega arith) (omega arith)), omega arith, simp length-set (l .inv .2))
+    let a = c .before .before .before .args in (
+      rw (l .inv .0, add-one) (paste-suc (a .out .now) (a .at) (a .s .now) (l .i) 0 (omega arith) (omega arith)),
+      omega arith,
+      simp length-set (l .inv .2),
+    )
 
 add-result : tie.Need-add-result Inv-loop μ-loop
 add-result c = omega arith

@@ -10,15 +10,22 @@ use Rattle.text.proofs.summary.with_visits.Tie as tie
 
 returns : tie.Need-returns
 unfolding visitsText
-returns c = let f = c .before .before .with-field .ensures in (simp (f .0, eq-eqb _ _ (c .if1 .taken), append-nil), omega (arith, f .1))
+returns c =
+    let f =
+    c .before .before .with-field .ensures in (
+      simp (f .0, eq-eqb _ _ (c .if1 .taken), append-nil),
+      omega (arith, f .1),
+    )
 
 returns-2 : tie.Need-returns-2
 unfolding visitsText
 returns-2 c =
     let f = c .before .before .before .before .before .before .with-field .ensures in
     let g = c .before .before .with-field2 .ensures in
-    let h = c .with-field3 .ensures in
-    (simp (h .0, g .0, f .0, ne-eqb _ _ (c .before .before .before .before .if1 .left), append-assoc), omega (arith, f .1, g .1, h .1))
+    let h = c .with-field3 .ensures in (
+      simp (h .0, g .0, f .0, ne-eqb _ _ (c .before .before .before .before .if1 .left), append-assoc),
+      omega (arith, f .1, g .1, h .1),
+    )
 
 pub with-visits-spec : {M : Type 1} → statement M
 with-visits-spec =

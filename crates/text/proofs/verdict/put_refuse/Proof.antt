@@ -19,9 +19,17 @@ returns c =
     let start = t₁ .before .before .before .before in
     let a = start .args in
     let p₁ = placed-next (placed-none (a .out .now) 0) (omega arith) refuse (t₁ .put-text .ensures) in
-    let p₂ = placed-next p₁ (omega arith) (decimalOf (a .x .number)) (d₁ .put-decimal .ensures .0, d₁ .put-decimal .ensures .1) in
+    let p₂ =
+    placed-next p₁ (omega arith) (decimalOf (a .x .number)) (
+      d₁ .put-decimal .ensures .0,
+      d₁ .put-decimal .ensures .1,
+    ) in
     let p₃ = placed-next p₂ (omega arith) space (t₂ .put-text2 .ensures) in
-    let p₄ = placed-next p₃ (omega arith) (decimalOf (a .x .place)) (d₂ .put-decimal2 .ensures .0, d₂ .put-decimal2 .ensures .1) in
+    let p₄ =
+    placed-next p₃ (omega arith) (decimalOf (a .x .place)) (
+      d₂ .put-decimal2 .ensures .0,
+      d₂ .put-decimal2 .ensures .1,
+    ) in
     let p₅ = placed-next p₄ (omega arith) end (t₃ .put-text3 .ensures) in
     rw (refuse-parts (a .x .number) (a .x .place)) (placed-first p₅)
 

@@ -27,18 +27,21 @@ module _ (s : List ℕ) (p : Progress) (d : Parsed) (says : d ≡ parseOf (take 
       take-all (length s - p .at) (drop (p .at) s) (omega (arith, length-drop (p .at) s)) in
       rw (← g, says, part)
 
-  admitted : (c : Command) → d ≡ Found c → (a b : Admitted) → a ≡ admitOf p c → a ≡ b → admittedAs b c ≡ nextCommandOf (drop (p .at) s) p
+  admitted : (c : Command) → d ≡ Found c → (a b : Admitted) → a ≡ admitOf p c → a ≡ b →
+      admittedAs b c ≡ nextCommandOf (drop (p .at) s) p
   admitted c g a b e f = rw (← f, e) (parsed (Found c) g)
 
 returns-3 : tie.Need-returns-3
 returns-3 c =
     let d = c .before .before .before .before .before in
-    admitted _ _ _ (d .before .before .parse .ensures) _ (d .c .given .1) _ _ (c .before .before .before .admit .ensures) (c .before .r .given .1)
+    admitted _ _ _ (d .before .before .parse .ensures) _ (d .c .given .1) _ _
+    (c .before .before .before .admit .ensures) (c .before .r .given .1)
 
 returns-4 : tie.Need-returns-4
 returns-4 c =
     let d = c .before .before .before .before .before in
-    admitted _ _ _ (d .before .before .parse .ensures) _ (d .c .given .1) _ _ (c .before .before .before .admit .ensures) (c .before .q .given .1)
+    admitted _ _ _ (d .before .before .parse .ensures) _ (d .c .given .1) _ _
+    (c .before .before .before .admit .ensures) (c .before .q .given .1)
 
 pub next-command-spec : {M : Type 1} → statement M
 next-command-spec =
@@ -57,7 +60,9 @@ next-command-spec =
     (λ c κs. c .before .before .before .before .before .before .before .pre .0)
     (search needs)
     (search needs)
-    (λ c. rw (c .refuse .ensures) (parsed _ _ _ (c .before .before .before .parse .ensures) _ (c .before .enum-told .given .1)))
-    (λ c. rw (c .refuse2 .ensures) (parsed _ _ _ (c .before .before .before .parse .ensures) _ (c .before .enum-told2 .given .1)))
+    (λ c. rw (c .refuse .ensures) (parsed _ _ _ (c .before .before .before .parse .ensures) _
+    (c .before .enum-told .given .1)))
+    (λ c. rw (c .refuse2 .ensures) (parsed _ _ _ (c .before .before .before .parse .ensures) _
+    (c .before .enum-told2 .given .1)))
     returns-3
     returns-4)

@@ -1,5 +1,5 @@
--- `check` meets its contract. The invariant of its loop: `a` is what the checks of the first i marks give after the header's, it is sound so far,
--- and these marks fit. The measure is how many marks are left.
+-- `check` meets its contract. The invariant of its loop: `a` is what the checks of the first i marks give after the
+-- header's, it is sound so far, and these marks fit. The measure is how many marks are left.
 -- Assumes nothing.
 use borrow.Author.Needs.{needs}
 use mathlib.Core.Path.{_≡_, refl}
@@ -22,15 +22,20 @@ use Rattle.ticket.proofs.writer.check.Tie as tie
 
 abbrev Inv-loop : tie.InvT-loop
 Inv-loop marks count a₀ i₀ a i =
-    SoundSoFar a × (a ≡ allThen a₀ (markCommands (listed marks i))) × AllFit (markCommands (listed marks i)) × (i ≤ count)
+    SoundSoFar a × (a ≡ allThen a₀ (markCommands (listed marks i))) × AllFit (markCommands (listed marks i))
+    × (i ≤ count)
 
 abbrev μ-loop : tie.MeasureT-loop
 μ-loop marks count a₀ i₀ a i = count - i
 
 loop-holds : tie.Need-loop-holds Inv-loop μ-loop
 loop-holds c =
-    let h = c .before .before .before .before .args .t .header in
-    (rw (c .header-checked .ensures .0) (sound-all (Next initialProgress) (headerCommands h) (sound sound-start)), refl, none, omega arith)
+    let h = c .before .before .before .before .args .t .header in (
+      rw (c .header-checked .ensures .0) (sound-all (Next initialProgress) (headerCommands h) (sound sound-start)),
+      refl,
+      none,
+      omega arith,
+    )
 
 array-copy-out-m : tie.Need-array-copy-out-m Inv-loop μ-loop
 array-copy-out-m c = rw (c .mark-index .ensures) (mark-index-below (c .before .before .loop .i))
@@ -46,7 +51,8 @@ loop-again c =
     let l = c .before .before .before .before .loop in
     let ms = c .before .before .before .before .before .before .before .before .before .args .t .marks in
     let m = getD ms (markIndex (l .i)) blankMark in
-    let next : c .mark-checked .result ≡ allThen (l .a) (commandsAt m) = simp (c .mark-checked .ensures .0, c .before .before .mark-index .ensures) in (
+    let next : c .mark-checked .result ≡ allThen (l .a) (commandsAt m) =
+    simp (c .mark-checked .ensures .0, c .before .before .mark-index .ensures) in (
       rw next (sound-all (l .a) (commandsAt m) (l .inv .0)),
       rw (next, all-listed, ← l .inv .1),
       fit-listed ms (l .i) (l .inv .2) (rw (← c .before .before .mark-index .ensures) (c .mark-checked .ensures .1)),
@@ -62,8 +68,10 @@ returns c =
     let l = c .before .before .loop in
     let t = c .before .before .before .before .before .before .before .args .t in
     let head = c .before .before .before .header-checked .ensures in
-    let all : l .i ≡ t .count = omega arith in
-    (simp (c .then .ensures, all-checked, l .inv .1, all, head .0), fit-ticket (fieldsOf t) (head .1) (rw (← all) (l .inv .2)))
+    let all : l .i ≡ t .count = omega arith in (
+      simp (c .then .ensures, all-checked, l .inv .1, all, head .0),
+      fit-ticket (fieldsOf t) (head .1) (rw (← all) (l .inv .2)),
+    )
 
 pub check-spec : {M : Type 1} → statement M
 check-spec =

@@ -19,8 +19,11 @@ mark-fits c = fits-mark (c .args .m) (omega arith) (omega arith) (omega arith) (
 
 returns : tie.Need-returns
 returns c =
-    let absent = c .enum-told .given .1 in
-    (simp (absent, c .before .before .then .ensures), simp absent (more (mark-fits (c .before .before .before .before)) none))
+    let absent = c .enum-told .given .1 in (
+      simp (absent, c .before .before .then .ensures),
+      simp absent
+          (more (mark-fits (c .before .before .before .before)) none),
+    )
 
 returns-2 : tie.Need-returns-2
 returns-2 c =

@@ -1,5 +1,5 @@
--- `put` puts the header, the marks one after another and the end. The loop's invariant: the marks so far are put after the header, and the output is as
--- long as it was.
+-- `put` puts the header, the marks one after another and the end. The loop's invariant: the marks so far are put after
+-- the header, and the output is as long as it was.
 -- Assumes nothing.
 use mathlib.Core.Path.{_≡_, refl}
 use Prim.Native.Nat.{_-_, _≤_}
@@ -18,7 +18,8 @@ use Rattle.ticket.proofs.writer.put.Statement.{statement}
 use Rattle.ticket.proofs.writer.put.Tie as tie
 
 abbrev Inv-loop : tie.InvT-loop
-Inv-loop out₀ marks count at₀ i₀ out at i = Placed out₀ at₀ (marksBytes marks i) out at × (i ≤ count) × (length out ≡ length out₀)
+Inv-loop out₀ marks count at₀ i₀ out at i =
+    Placed out₀ at₀ (marksBytes marks i) out at × (i ≤ count) × (length out ≡ length out₀)
 
 abbrev μ-loop : tie.MeasureT-loop
 μ-loop out₀ marks count at₀ i₀ out at i = count - i
@@ -42,7 +43,14 @@ array-copy-out-m : tie.Need-array-copy-out-m Inv-loop μ-loop
 array-copy-out-m c = omega (arith, mark-index-below (c .before .before .loop .i))
 
 put-mark-requires : tie.Need-put-mark-requires Inv-loop μ-loop
-put-mark-requires c κs = omega (arith, mark-room (c .before .before .before .before .before .before .before .before .before .before .before .before .before .args .t) (c .before .before .before .before .loop .i) (c .before .before .mark-index .ensures) (c .before .before .before .loop-test .taken))
+put-mark-requires c κs =
+    omega (
+      arith,
+      mark-room
+          (c .before .before .before .before .before .before .before .before .before .before .before .before .before
+          .args .t) (c .before .before .before .before .loop .i) (c .before .before .mark-index .ensures) (c
+          .before .before .before .loop-test .taken),
+    )
 
 add-i : tie.Need-add-i Inv-loop μ-loop
 add-i c = omega arith
@@ -58,14 +66,21 @@ loop-again c =
     let t = at-loop .before .before .before .before .before .before .before .before .before .args .t in
     let e = placed .mark-index .ensures in
     let room = mark-room t (l .i) e (placed .before .loop-test .taken) in (
-      rw (add-one, marks-more (t .marks) (l .i) e) (placed-next (l .inv .0) (omega arith) _ (c .before .before .put-mark .ensures)),
+      rw (add-one, marks-more (t .marks) (l .i) e) (placed-next (l .inv .0) (omega arith) _
+          (c .before .before .put-mark .ensures)),
       omega arith,
       omega arith,
     )
 
 put-command-requires : tie.Need-put-command-requires Inv-loop μ-loop
 unfolding widthOf
-put-command-requires c κs = omega (arith, end-room (c .before .before .before .before .before .before .before .before .before .before .before .args .t) (c .before .before .loop .i) (omega arith))
+put-command-requires c κs =
+    omega (
+      arith,
+      end-room
+          (c .before .before .before .before .before .before .before .before .before .before .before .args .t)
+          (c .before .before .loop .i) (omega arith),
+    )
 
 same-length : tie.Need-same-length Inv-loop μ-loop
 same-length c = omega arith
@@ -80,7 +95,9 @@ returns c =
     let head = at-loop .before .before .before .put-header in
     let size = length-header (t .header) in
     let room = end-room t (l .i) (omega arith) in
-    let p₁ = placed-next {m = head .result} (placed-none (start .args .out .now) 0) (omega arith) (encodeAll (headerCommands (t .header))) (head .ensures .0, omega arith) in
+    let p₁ =
+    placed-next {m = head .result} (placed-none (start .args .out .now) 0) (omega arith)
+    (encodeAll (headerCommands (t .header))) (head .ensures .0, omega arith) in
     let p₂ = placed-next p₁ (omega arith) (marksBytes (t .marks) (l .i)) (l .inv .0 .bytes, l .inv .0 .end) in
     let p₃ = placed-command p₂ (omega arith) Command.End (c .before .before .put-command .ensures) in
     let all : l .i ≡ t .count = omega arith in

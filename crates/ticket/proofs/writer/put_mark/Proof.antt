@@ -25,16 +25,22 @@ markOf m = Command.Mark (m .address) (m .claim)
 unnamed-bytes : (m : Mark) → m .name ≡ Absent → encodeAll (commandsAt m) ≡ encodeOf (markOf m)
 unnamed-bytes m e = rw (e, append-nil)
 
-named-bytes : (m : Mark) {t : ℕ} → m .name ≡ Text t → encodeAll (commandsAt m) ≡ encodeOf (markOf m) ++ encodeOf (Command.Name (m .address) t)
+named-bytes : (m : Mark) {t : ℕ} → m .name ≡ Text t → encodeAll (commandsAt m)
+    ≡ encodeOf (markOf m) ++ encodeOf (Command.Name (m .address) t)
 named-bytes m e = rw (e, append-nil)
 
-named-length : (m : Mark) {t : ℕ} → m .name ≡ Text t → length (encodeAll (commandsAt m)) ≡ widthOf (markOf m) + widthOf (Command.Name (m .address) t)
+named-length : (m : Mark) {t : ℕ} → m .name ≡ Text t → length (encodeAll (commandsAt m))
+    ≡ widthOf (markOf m) + widthOf (Command.Name (m .address) t)
 named-length m e = ap length (named-bytes m e) ∙ simp (length-append, length-encode)
 
 put-command-requires : tie.Need-put-command-requires
 put-command-requires c κs =
     let m = c .before .before .before .args .m in
-    omega (arith, length-append (encodeOf (markOf m)) (encodeAll (nameCommands (m .address) (m .name))), length-encode (markOf m))
+    omega (
+      arith,
+      length-append (encodeOf (markOf m)) (encodeAll (nameCommands (m .address) (m .name))),
+      length-encode (markOf m),
+    )
 
 enum-told : tie.Need-enum-told
 enum-told c = search needs
@@ -43,13 +49,24 @@ enum-known-name : tie.Need-enum-known-name
 enum-known-name c = search needs
 
 put-command-requires-2 : tie.Need-put-command-requires-2
-put-command-requires-2 c κs = omega (arith, named-length (c .before .before .before .before .before .before .before .before .before .before .args .m) (c .before .before .name .given .1))
+put-command-requires-2 c κs =
+    omega (
+      arith,
+      named-length
+          (c .before .before .before .before .before .before .before .before .before .before .args .m)
+          (c .before .before .name .given .1),
+    )
 
 same-length : tie.Need-same-length
 same-length c = search needs
 
 returns : tie.Need-returns
-returns c = rw (unnamed-bytes (c .before .before .before .before .before .before .before .before .args .m) (c .enum-told .given .1), length-encode) (c .before .before .before .before .put-command .ensures)
+returns c =
+    rw (
+      unnamed-bytes (c .before .before .before .before .before .before .before .before .args .m)
+          (c .enum-told .given .1),
+      length-encode,
+    ) (c .before .before .before .before .put-command .ensures)
 
 same-length-2 : tie.Need-same-length-2
 same-length-2 c = search needs
@@ -62,7 +79,9 @@ returns-2 c =
     let t = named .name .given .0 .0 in
     let e = named .name .given .1 in
     let wide = named-length m e in
-    let p₁ = placed-command (placed-none (start .args .out .now) (start .args .at)) (omega arith) (markOf m) (named .before .before .before .before .put-command .ensures) in
+    let p₁ =
+    placed-command (placed-none (start .args .out .now) (start .args .at)) (omega arith) (markOf m)
+    (named .before .before .before .before .put-command .ensures) in
     let p₂ = placed-command p₁ (omega arith) (Command.Name (m .address) t) (c .before .before .put-command2 .ensures) in
     rw (named-bytes m e) (p₂ .bytes, p₂ .end)
 

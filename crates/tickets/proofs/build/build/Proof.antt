@@ -24,6 +24,9 @@ build-spec =
     (search needs)
     (λ c. omega arith)
     (λ c. omega arith)
-    (λ c. (c .before .before .byte .kept .1 .1 .0 ∙ c .before .before .before .before .before .loop .inv .0, omega arith))
+    (λ c. (
+      c .before .before .byte .kept .1 .1 .0 ∙ c .before .before .before .before .before .loop .inv .0,
+      omega arith,
+    ))
     (λ c. c .before .loop .inv .0)
     (search needs))

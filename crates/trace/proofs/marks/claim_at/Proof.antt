@@ -15,7 +15,10 @@ full s = sym (length-map (s .args .t .marks) _) ∙ s .good .0 .1 .1 .1 .1 .0 .1
 returns : tie.Need-returns
 returns c =
     let s = c .before .before .before in
-    ap (λ (m : Mark). m .claim) (c .before .blank .ensures ∙ sym (List·getD-eq-default (s .args .t .marks) blankMark {n = s .args .i} (omega (arith, full s, c .before .before .if1 .taken))))
+    ap (λ (m : Mark). m .claim) (c .before .blank .ensures ∙ sym
+    (List·getD-eq-default (s .args .t .marks) blankMark {n = s .args .i}
+    (omega (arith, full s, c .before .before .if1 .taken))))
 
 pub claim-at-spec : {M : Type 1} → statement M
-claim-at-spec = tie.close (tie.spec (λ c κs. search needs) returns (λ c. search needs) (λ c. search needs) (λ c. search needs))
+claim-at-spec =
+    tie.close (tie.spec (λ c κs. search needs) returns (λ c. search needs) (λ c. search needs) (λ c. search needs))

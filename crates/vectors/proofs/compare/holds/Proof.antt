@@ -15,8 +15,11 @@ returns c =
     let loaded = at-step .before .before .before .memory-in .ensures .0 in
     let after = c .before .before .before .registers-in2 .ensures in
     let cycles = c .before .before .byte-in .ensures in
-    let answer = at-step .step .ensures .0 in
-    (λ e. absurd (false≢true e), λ h. absurd (false≢true (sym (not-true _ (c .if1 .taken)) ∙ c .before .is-done .ensures .1 (answer ∙ answers _ before loaded after cycles h))))
+    let answer = at-step .step .ensures .0 in (
+      λ e. absurd (false≢true e),
+      λ h. absurd (false≢true (sym (not-true _ (c .if1 .taken)) ∙
+          c .before .is-done .ensures .1 (answer ∙ answers _ before loaded after cycles h))),
+    )
 
 returns-2 : tie.Need-returns-2
 returns-2 c =

@@ -9,10 +9,12 @@ returns : tie.Need-returns
 returns c = simp (c .wrapping-add-u322 .ensures, c .before .before .wrapping-add-u32 .ensures, c .before .match .keys1)
 
 returns-2 : tie.Need-returns-2
-returns-2 c = simp (c .wrapping-add-u323 .ensures, c .before .before .wrapping-add-u32 .ensures, c .before .match .keys2)
+returns-2 c =
+    simp (c .wrapping-add-u323 .ensures, c .before .before .wrapping-add-u32 .ensures, c .before .match .keys2)
 
 returns-3 : tie.Need-returns-3
-returns-3 c = simp (c .wrapping-add-u324 .ensures, c .before .before .wrapping-add-u32 .ensures, c .before .match .keys3)
+returns-3 c =
+    simp (c .wrapping-add-u324 .ensures, c .before .before .wrapping-add-u32 .ensures, c .before .match .keys3)
 
 returns-4 : tie.Need-returns-4
 returns-4 c =

@@ -12,4 +12,5 @@ returns c = simp (c .byte-in2 .ensures, c .before .byte-in .ensures)
 pub word-in-spec : {M : Type 1} → statement M
 word-in-spec =
     tie.close
-    (tie.spec (search needs) (search needs) (search needs) (search needs) (search needs) (search needs) (search needs) returns)
+    (tie.spec (search needs) (search needs) (search needs) (search needs) (search needs) (search needs) (search needs)
+    returns)

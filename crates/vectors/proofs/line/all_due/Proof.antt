@@ -1,4 +1,5 @@
--- `all_due` meets its contract. The invariant of its loop: the bytes before i are due. The measure is what is left of the line.
+-- `all_due` meets its contract. The invariant of its loop: the bytes before i are due. The measure is what is left of
+-- the line.
 -- Assumes nothing.
 use mathlib.Core.Path.{refl, sym, _∙_, subst}
 use mathlib.Core.Bool.{false≢true}
@@ -25,13 +26,18 @@ loop-holds c = (below-none _, omega arith)
 returns : tie.Need-returns Inv-loop μ-loop
 returns c =
     let i = c .before .before .before .before .loop .i in
-    let below = c .before .before .before .loop-test .taken in
-    (λ e. absurd (false≢true e), λ all. absurd (false≢true (sym (not-true _ (c .if1 .taken)) ∙ c .before .is-due .ensures ∙ all i below)))
+    let below = c .before .before .before .loop-test .taken in (
+      λ e. absurd (false≢true e),
+      λ all. absurd (false≢true (sym (not-true _ (c .if1 .taken)) ∙
+          c .before .is-due .ensures ∙ all i below)),
+    )
 
 loop-again : tie.Need-loop-again Inv-loop μ-loop
 loop-again c =
-    let at-loop = c .before .before .before .before in
-    (below-more _ _ (at-loop .loop .inv .0) (sym (c .before .is-due .ensures) ∙ not-false _ (c .if1 .left)), omega arith)
+    let at-loop = c .before .before .before .before in (
+      below-more _ _ (at-loop .loop .inv .0) (sym (c .before .is-due .ensures) ∙ not-false _ (c .if1 .left)),
+      omega arith,
+    )
 
 returns-2 : tie.Need-returns-2 Inv-loop μ-loop
 returns-2 c =

@@ -20,4 +20,5 @@ returns-3 c = simp (le-ltb _ _ (c .before .if1 .left), le-ltb _ _ (c .if2 .left)
 
 pub space-due-spec : {M : Type 1} → statement M
 space-due-spec =
-    tie.close (tie.spec returns (search needs) (search needs) returns-2 (search needs) (search needs) (search needs) returns-3)
+    tie.close (tie.spec returns (search needs) (search needs) returns-2 (search needs) (search needs) (search needs)
+    returns-3)

@@ -16,8 +16,10 @@ returns : tie.Need-returns
 unfolding expectedIn
 returns c =
     let n = c .before .before .before .before .before .byte-in .ensures in
-    let w = same-written _ n (c .before .before .before .before .byte-in2 .ensures) in
-    (simp (c .before .load .ensures .0, c .before .before .before .memory-in .ensures .0, w, n), c .before .load .ensures .1)
+    let w = same-written _ n (c .before .before .before .before .byte-in2 .ensures) in (
+      simp (c .before .load .ensures .0, c .before .before .before .memory-in .ensures .0, w, n),
+      c .before .load .ensures .1,
+    )
 
 pub expected-in-spec : {M : Type 1} → statement M
 expected-in-spec =

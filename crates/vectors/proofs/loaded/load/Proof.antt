@@ -1,5 +1,5 @@
--- `load` meets its contract. The invariant of its loop: the bytes that are left, put into memory as it is, give what all of them
--- give. The measure is how many are left.
+-- `load` meets its contract. The invariant of its loop: the bytes that are left, put into memory as it is, give what
+-- all of them give. The measure is how many are left.
 -- Assumes nothing.
 use mathlib.Core.Path.{_≡_, refl, sym, ap, _∙_}
 use Prim.Native.Nat.{ℕ, _+_, _-_, _*_, _≤_}
@@ -13,7 +13,8 @@ use Rattle.vectors.proofs.loaded.load.Tie as tie
 
 abbrev Inv-loop : tie.InvT-loop
 Inv-loop mem₀ s from n i₀ left₀ mem i left =
-    (applied (storesIn s i left) mem ≡ applied (storesIn s from n) mem₀) × (length mem ≡ 65536) × (i + 7 * left ≤ length s + 1)
+    (applied (storesIn s i left) mem ≡ applied (storesIn s from n) mem₀) × (length mem ≡ 65536)
+    × (i + 7 * left ≤ length s + 1)
 
 abbrev μ-loop : tie.MeasureT-loop
 μ-loop mem₀ s from n i₀ left₀ mem i left = left
@@ -26,7 +27,8 @@ loop-again c =
     let at-loop = c .before .before .before .before .before .before .before in
     let put = c .before .before .put-byte .ensures in (
       simp (put .0, c .before .before .before .byte-in .ensures, c .before .before .before .before .word-in .ensures)
-          (sym (first-store _ _ _ _ (c .before .before .before .before .before .before .loop-test .taken)) ∙ at-loop .loop .inv .0),
+          (sym (first-store _ _ _ _ (c .before .before .before .before .before .before .loop-test .taken)) ∙
+          at-loop .loop .inv .0),
       put .1,
       omega arith,
     )

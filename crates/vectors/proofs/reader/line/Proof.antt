@@ -33,14 +33,19 @@ byte-in-requires-2 c κs =
     omega (arith, shaped .long)
 
 returns : tie.Need-returns
-returns c = (Malformed, rw (c .before .enum-told .given .1) at (c .before .before .before .compared .ensures), c .counted .ensures)
+returns c = (
+  Malformed,
+  rw (c .before .enum-told .given .1) at (c .before .before .before .compared .ensures),
+  c .counted .ensures,
+)
 
 returns-2 : tie.Need-returns-2
 returns-2 c =
     let at-told = c .before .before .before .before .before .before .before in (
       Differs,
       rw (at-told .enum-told2 .given .1) at (at-told .before .before .compared .ensures),
-      c .counted2 .ensures ∙ ap (λ (k : ℕ). countedOf (at-told .before .before .before .before .args .c) k Differs) (c .before .byte-in .ensures),
+      c .counted2 .ensures ∙ ap (λ (k : ℕ). countedOf (at-told .before .before .before .before .args .c) k Differs)
+          (c .before .byte-in .ensures),
     )
 
 returns-3 : tie.Need-returns-3
@@ -48,7 +53,8 @@ returns-3 c =
     let at-told = c .before .before .before .before .before in (
       Agrees,
       rw (at-told .enum-told3 .given .1) at (at-told .before .before .compared .ensures),
-      c .counted3 .ensures ∙ ap (λ (k : ℕ). countedOf (at-told .before .before .before .before .args .c) k Agrees) (c .before .byte-in2 .ensures),
+      c .counted3 .ensures ∙ ap (λ (k : ℕ). countedOf (at-told .before .before .before .before .args .c) k Agrees)
+          (c .before .byte-in2 .ensures),
     )
 
 pub line-spec : {M : Type 1} → statement M

@@ -1,5 +1,5 @@
--- `piece` meets its contract. The invariant of its loop: whatever the bytes left lead to from here, the piece leads to from its start.
--- The measure is how many are left.
+-- `piece` meets its contract. The invariant of its loop: whatever the bytes left lead to from here, the piece leads to
+-- from its start. The measure is how many are left.
 -- Assumes nothing.
 use mathlib.Core.Path.{_≡_, _∙_}
 use Prim.Native.Nat.{_-_, _≤_}
@@ -12,7 +12,8 @@ use Rattle.vectors.proofs.reader.piece.Tie as tie
 
 abbrev Inv-loop : tie.InvT-loop
 Inv-loop s buffer₀ places₀ q₀ i₀ i-end buffer places q i =
-    (length buffer ≡ 256) × (q .filled ≤ 256) × (i ≤ length s) × ((f : Reading) → Reads (drop i s) (held q buffer) f → Reads s (held q₀ buffer₀) f)
+    (length buffer ≡ 256) × (q .filled ≤ 256) × (i ≤ length s)
+    × ((f : Reading) → Reads (drop i s) (held q buffer) f → Reads s (held q₀ buffer₀) f)
 
 abbrev μ-loop : tie.MeasureT-loop
 μ-loop s buffer₀ places₀ q₀ i₀ i-end buffer places q i = length s - i

@@ -1,4 +1,5 @@
--- `fill` meets its contract. The loop's invariant: the stores that are left lead to the same memory. The measure is how many bytes are left.
+-- `fill` meets its contract. The loop's invariant: the stores that are left lead to the same memory. The measure is how
+-- many bytes are left.
 -- Assumes nothing.
 use borrow.Author.Needs.{needs}
 use Prim.Native.Nat.{ℕ, _+_, _-_, _≤_, _<_}
@@ -15,13 +16,15 @@ use Rattle.verdict.proofs.load.fill.Tie as tie
 
 abbrev Inv-loop : tie.InvT-loop
 Inv-loop from image memory₀ i₀ at₀ memory i at =
-    (i ≤ length image) × (applied (imageStores at (drop i image)) memory ≡ applied (imageStores from image) memory₀) × (length memory ≡ 65536)
+    (i ≤ length image) × (applied (imageStores at (drop i image)) memory ≡ applied (imageStores from image) memory₀)
+    × (length memory ≡ 65536)
 
 abbrev μ-loop : tie.MeasureT-loop
 μ-loop from image memory₀ i₀ at₀ memory i at = length image - i
 
 next-byte : (a i : ℕ) (bs m : List ℕ) → i < length bs
-    → applied (imageStores a (drop i bs)) m ≡ applied (imageStores (wrappingAdd a 1) (drop (i + 1) bs)) (withByte m a (getD bs i 0))
+    → applied (imageStores a (drop i bs)) m ≡ applied (imageStores (wrappingAdd a 1) (drop (i + 1) bs))
+    (withByte m a (getD bs i 0))
 next-byte a i bs m h = rw (add-one, drop-cons bs i 0 h)
 
 loop-again : tie.Need-loop-again Inv-loop μ-loop
@@ -29,8 +32,11 @@ loop-again c =
     let p = c .before .before .before in
     let l = p .before .before .before .before in
     let image = l .before .before .before .args .image .now in
-    let next = next-byte (l .loop .at) (l .loop .i) image (l .loop .memory) (search needs) in
-    (search needs, rw (c .wrapping-add .ensures, p .put-byte .ensures .0) (sym next ∙ l .loop .inv .1), p .put-byte .ensures .1)
+    let next = next-byte (l .loop .at) (l .loop .i) image (l .loop .memory) (search needs) in (
+      search needs,
+      rw (c .wrapping-add .ensures, p .put-byte .ensures .0) (sym next ∙ l .loop .inv .1),
+      p .put-byte .ensures .1,
+    )
 
 returns : tie.Need-returns Inv-loop μ-loop
 returns c =
