@@ -2,8 +2,9 @@
 tree to it: the former stand in crates/*/specs, the latter in crates/*/specs/inner.
 
 A definition is to be believed where the contract of a public call leads to it. The public calls are the public
-functions without `requires` of the crates of INTERFACE, at their root or in a public module. The statements of the laws of docs/ASSURANCE.md lead to
-definitions too: these may stand at either place. Of the crates of OUTSIDE nothing is asked.
+functions without `requires` of the crates of INTERFACE, at their root or in a public module. The statements of the
+laws of docs/ASSURANCE.md lead to definitions too: these may stand at either place. Of the crates of OUTSIDE nothing is
+asked.
 """
 import re
 import sys

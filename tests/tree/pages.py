@@ -1,7 +1,7 @@
 """Holds pages and files to what their readers are told.
 
-- Lines have at most 120 characters, in every file that git tracks, but for stored data, tables in Markdown and rows of
-  byte strings in code.
+- Lines have at most 120 characters, in every file that git tracks, but for stored data, tables and quoted output in
+  Markdown, and rows of byte strings in code.
 - crates.txt orders the crates under headings, the layers; a crate names only crates that stand above it.
 - What a page quotes as a path of this repository (`crates/..`, `docs/..`, .., or CRATE/specs/.., CRATE/proofs/..,
   CRATE/src/.., CRATE/must-fail/..) is there.
@@ -26,7 +26,7 @@ def wide(root, name):
     except UnicodeDecodeError:
         return  # an image or a ticket
     for number, line in enumerate(lines, 1):
-        table = name.endswith('.md') and line.startswith('|')
+        table = name.endswith('.md') and line.startswith(('|', '    '))
         row = name.endswith('.rt') and re.match(r' *\*?b"', line)
         if len(line) > WIDTH and not table and not row:
             yield f'line {number} has {len(line)} characters'
