@@ -25,8 +25,10 @@ def wide(root, name):
         lines = (root / name).read_text().split('\n')
     except UnicodeDecodeError:
         return  # an image or a ticket
+    quoted = False
     for number, line in enumerate(lines, 1):
-        table = name.endswith('.md') and line.startswith(('|', '    '))
+        quoted ^= line.startswith('```')
+        table = name.endswith('.md') and (quoted or line.startswith(('|', '    ')))
         row = name.endswith('.rt') and re.match(r' *\*?b"', line)
         if len(line) > WIDTH and not table and not row:
             yield f'line {number} has {len(line)} characters'

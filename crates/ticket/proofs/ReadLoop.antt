@@ -23,7 +23,8 @@ use Rattle.commands.proofs.Sound.{bounds}
 use Rattle.ticket.specs.declared.answer.Answer.the-variants as Answer
 use Rattle.ticket.specs.declared.fields.Mark.{Mark}
 use Rattle.ticket.specs.declared.reader.Turn.the-variants as Turn
-use Rattle.ticket.specs.Fields.{refused, blankMark, enteredOf, marksWith, inFileOrder, ticketOf, readingOf}
+use Rattle.ticket.specs.Fields.{refused, blankMark, marksWith, inFileOrder, ticketOf, readingOf}
+use Rattle.ticket.specs.inner.Entered.{enteredOf}
 use Rattle.ticket.specs.Read.{refusal, nextCommandOf, endOf, readOnward, ifEnded, readFrom, readOf}
 use Rattle.ticket.proofs.Slots.{filled, entered}
 use Rattle.ticket.proofs.SoFar.{Consistent, consistent-start, consistent-next, length-ordered}

@@ -14,7 +14,8 @@ use Rattle.commands.specs.declared.progress.Progress.{Progress}
 use Rattle.commands.specs.Cause.{inOrder}
 use Rattle.commands.specs.Progress.{afterOf}
 use Rattle.ticket.specs.declared.fields.Mark.{Mark}
-use Rattle.ticket.specs.Fields.{blankMark, named, enteredOf, marksWith, inFileOrder}
+use Rattle.ticket.specs.Fields.{blankMark, named, marksWith, inFileOrder}
+use Rattle.ticket.specs.inner.Entered.{enteredOf}
 use Rattle.ticket.proofs.SoFar.{Consistent, length-ordered}
 
 -- some marks, filled up to n

@@ -44,14 +44,6 @@ marksWith [] (Command.Name a t) = []
 marksWith (m ∷ ms) (Command.Name a t) = named m t ∷ ms
 marksWith ms Command.End = ms
 
--- the same of the latest mark alone
-abbrev pub enteredOf : Mark → Command → Mark
-enteredOf m (Command.Window k w) = m
-enteredOf m (Command.Entry a l) = m
-enteredOf m (Command.Mark a k) = unnamed a k
-enteredOf m (Command.Name a t) = named m t
-enteredOf m Command.End = m
-
 abbrev pub inFileOrder : List Mark → List Mark
 inFileOrder [] = []
 inFileOrder (m ∷ ms) = inFileOrder ms ++ (m ∷ [])

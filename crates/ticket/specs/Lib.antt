@@ -3,3 +3,4 @@ pub mod Read
 pub mod Write
 pub mod RoundTrip
 pub mod Rules
+pub mod inner

@@ -1,0 +1,14 @@
+-- The latest mark after a command, as the reader keeps it in its array. An inner matter of the code.
+-- Assumes nothing.
+use Rattle.commands.specs.declared.command.Command.{Command}
+use Rattle.commands.specs.declared.command.Command.the-variants as Command
+use Rattle.ticket.specs.declared.fields.Mark.{Mark}
+use Rattle.ticket.specs.Fields.{unnamed, named}
+
+-- as `marksWith` of the latest mark alone
+abbrev pub enteredOf : Mark → Command → Mark
+enteredOf m (Command.Window k w) = m
+enteredOf m (Command.Entry a l) = m
+enteredOf m (Command.Mark a k) = unnamed a k
+enteredOf m (Command.Name a t) = named m t
+enteredOf m Command.End = m
