@@ -100,7 +100,7 @@ module _ (image : List ℕ) (ms : List Mark) (s : List ℕ) (f : Rest)
   rest-numbered : (p : Progress) (ended : Bool) → OneToTwenty (verdictBy (ifEnded ended p ms s f) image)
   unfolding nextCommandOf
   rest-numbered p true = end-numbered image p ms s
-  rest-numbered p false = turn-numbered p (Bytes.decodeOf s)
+  rest-numbered p false = turn-numbered p (Bytes.parseOf s)
 
 read-numbered : (image : List ℕ) (n : ℕ) (p : Progress) (ms : List Mark) (s : List ℕ) →
     OneToTwenty (verdictBy (readFrom n p ms s) image)
