@@ -164,6 +164,16 @@ def seen(scratch, what, wrong, name, old, new):
     return None if found.get(what, '').startswith(wrong) else f'expected of {what}: {wrong!r}, found {found}'
 
 
+def told(results):
+    """Prints what is wrong and the counts; the exit status."""
+    for what, wrong in results:
+        if wrong:
+            print(f'FAILED: {what}: {wrong}')
+    failed = sum(1 for _, wrong in results if wrong)
+    print(f'{len(results) - failed} passed, {failed} failed')
+    return 1 if failed else 0
+
+
 def main(arguments):
     if arguments[:1] == ['--show'] or arguments[:1] == ['--words']:
         project = Project(ROOT)
@@ -184,12 +194,7 @@ def main(arguments):
         with tempfile.TemporaryDirectory() as work:
             copy(ROOT, Path(work))
             results += [(f'fault: {name}', seen(Path(work), *fault)) for name, *fault in FAULTS]
-    for what, wrong in results:
-        if wrong:
-            print(f'FAILED: {what}: {wrong}')
-    failed = sum(1 for _, wrong in results if wrong)
-    print(f'{len(results) - failed} passed, {failed} failed')
-    return 1 if failed else 0
+    return told(results)
 
 
 if __name__ == '__main__':

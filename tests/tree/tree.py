@@ -13,6 +13,7 @@ from pathlib import Path
 sys.dont_write_bytecode = True
 import believed
 import pages
+from laws import told
 
 ROOT = Path(__file__).resolve().parents[2]
 # a file of the copy, what in it becomes what, and what must be said
@@ -61,12 +62,7 @@ def main(arguments):
     results = wrongs(ROOT)
     if not any(wrong for _, wrong in results):
         results += [(f'fault: {name}', seen(ROOT, *fault)) for name, *fault in FAULTS]
-    for what, wrong in results:
-        if wrong:
-            print(f'FAILED: {what}: {wrong}')
-    failed = sum(1 for _, wrong in results if wrong)
-    print(f'{len(results) - failed} passed, {failed} failed')
-    return 1 if failed else 0
+    return told(results)
 
 
 sys.exit(main(sys.argv[1:]))
