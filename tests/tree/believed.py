@@ -2,9 +2,9 @@
 tree to it: the former stand in crates/*/specs, the latter in crates/*/specs/inner.
 
 A definition is to be believed where the contract of a public call leads to it. The public calls are the public
-functions without `requires` of the crates of INTERFACE, at their root or in a public module. The statements of the
-laws of docs/ASSURANCE.md lead to definitions too: these may stand at either place. Of the crates of OUTSIDE nothing is
-asked.
+functions of the crates of INTERFACE, at their root or in a public module; none may have a `requires`. The statements
+of the laws of docs/ASSURANCE.md lead to definitions too: these may stand at either place. Of the crates of OUTSIDE
+nothing is asked.
 """
 import re
 import sys
@@ -15,26 +15,31 @@ from laws import PAGE, table
 from words import ATOM, USE, Declaration, Project, imported
 
 INTERFACE = ['stepper', 'ticket', 'verdict', 'monitor']
-# the desk stepper's crates and the programs that test: no demand speaks of them
-OUTSIDE = ['text', 'measure', 'arguments', 'cases', 'vectors']
-CALL = re.compile(r'^pub (?:extern "C" )?fn \w+(.*?)^\{', re.S | re.M)
+# the desk stepper's crates and the vectors: no demand speaks of them
+OUTSIDE = ['text', 'measure', 'arguments', 'vectors']
+CALL = re.compile(r'^pub (?:extern "C" )?fn (\w+)(.*?)^\{', re.S | re.M)
+
+
+def sources(project):
+    """The files of the public calls: the root of each crate of INTERFACE, and its public modules."""
+    for crate in INTERFACE:
+        root = project.crates / crate / 'src/lib.rt'
+        modules = re.findall(r'^pub mod (\w+);', root.read_text(), re.M)
+        yield from [root] + [root.with_name(module + '.rt') for module in modules]
 
 
 def contracts(project):
     """The declarations that the contracts of the public calls name."""
-    for crate in INTERFACE:
-        root = project.crates / crate / 'src/lib.rt'
-        modules = re.findall(r'^pub mod (\w+);', root.read_text(), re.M)
-        for source in [root] + [root.with_name(module + '.rt') for module in modules]:
-            text = source.read_text()
-            names = {}
-            for line in text.split('\n'):
-                if line.startswith('ghost use '):
-                    names.update(imported(USE.match(line)))
-            for contract in CALL.findall(text):
-                for atom in ATOM.findall(contract if 'requires' not in contract else ''):
-                    if atom in names and (file := project.module(names[atom][0])):
-                        yield file.declarations.get(names[atom][1]) or file.constructors[names[atom][1]]
+    for source in sources(project):
+        text = source.read_text()
+        names = {}
+        for line in text.split('\n'):
+            if line.startswith('ghost use '):
+                names.update(imported(USE.match(line)))
+        for _, contract in CALL.findall(text):
+            for atom in ATOM.findall(contract):
+                if atom in names and (file := project.module(names[atom][0])):
+                    yield file.declarations.get(names[atom][1]) or file.constructors[names[atom][1]]
 
 
 def laws(project, root):
@@ -54,8 +59,12 @@ def files(project):
 
 
 def wrongs(root):
-    """Each definition, with what is wrong with its place."""
+    """Each public call, with a `requires` that it has; and each definition, with what is wrong with its place."""
     project = Project(root)
+    for source in sources(project):
+        for name, contract in CALL.findall(source.read_text()):
+            asked = 'requires' in contract
+            yield f'{source.relative_to(root)}: {name}', 'a public call asks something of its caller' if asked else None
     called = project.closure(contracts(project))
     stated = project.closure(laws(project, root))
     for path, inner in files(project):

@@ -11,7 +11,8 @@ import subprocess
 
 WIDTH = 120
 # made or compared by programs, not read as pages
-DATA = re.compile(r'crates/\w+/(data/|stdout$)|tests/(edits/samples|trace/expected)/|tests/laws/statements\.txt$')
+DATA = re.compile(r'crates/\w+/(data/|stdout$)|tests/(edits/samples|trace/expected)/|tests/laws/statements\.txt$'
+                  r'|examples/.*\.(bin|tkt)$')
 FOLDERS = 'crates', 'docs', 'tests', 'tools', 'bench', 'include', 'examples', '.ci'
 
 
@@ -21,10 +22,7 @@ def tracked(root):
 
 
 def wide(root, name):
-    try:
-        lines = (root / name).read_text().split('\n')
-    except UnicodeDecodeError:
-        return  # an image or a ticket
+    lines = (root / name).read_text().split('\n')
     quoted = False
     for number, line in enumerate(lines, 1):
         quoted ^= line.startswith('```')
@@ -48,6 +46,8 @@ def layers(root):
             if below:
                 yield f'{crate} names {", ".join(sorted(below))}, not above it'
             above.add(crate)
+    for crate in sorted(here - above):
+        yield f'{crate} is not there'
 
 
 def absent(root, name):
