@@ -1,10 +1,10 @@
-// What everybody answers with: document 01's refusals and verdicts, once.
+// An inner crate: what everybody answers with, document 01's refusals and verdicts, once.
 ghost use mathlib.Core.Path.{_≡_};
 use registers::Cycles;
 use registers::StackBytes;
 
-// Document 01's number of a cause ("Where a ticket stops") and its place: an offset of the ticket, an address, or 24's
-// bytes needed.
+// Document 01's number of a cause ("Where a ticket stops") and its place: an offset of the ticket, an address, 24's
+// bytes needed, or 0.
 pub struct Refusal {
     pub number: u8,
     pub place: u32,

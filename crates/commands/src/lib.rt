@@ -1,5 +1,5 @@
 // An inner crate: the commands of a ticket one by one, as values and as bytes, and the causes for which one is refused
-// after those before it (document 01, "The ticket"). The ticket as a whole is read and written in the crate above.
+// after those before it (document 01, "The ticket"). The ticket as a whole is read and written in `ticket`.
 pub mod header; // windows, and what $01 to $04 say
 pub mod command; // the commands
 mod row; // the table of commands

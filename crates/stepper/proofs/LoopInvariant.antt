@@ -12,8 +12,7 @@ use Rattle.stepper.proofs.Costs.{step-cost}
 use Rattle.stepper.proofs.LoopTurn.{refuses, over, steps, ended, goes-on, ends-at, passes}
 
 -- from registers r₀ and memory m₀ the loop has come to r and m, with `left` of the budget b left, and `turns` turns or
--- more
--- may follow
+-- more may follow
 pub record CameTo (last b : ℕ) (r₀ : Registers) (m₀ : List ℕ) (left : ℕ) (r : Registers) (m : List ℕ) : Type 0 where
   pub within : left ≤ b
   pub turns : ℕ

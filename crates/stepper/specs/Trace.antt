@@ -21,8 +21,7 @@ total [] = 0
 total (d ∷ ds) = d .cycles + total ds
 
 -- `Along r m ds q n`: from the registers r and the memory m the step does the instructions ds, none of them at home,
--- and
--- reaches q and n
+-- and reaches q and n; from home there is the empty one alone
 pub data Along : Registers → List ℕ → List Event → Registers → List ℕ → Type 0 where
   stay : {r : Registers} {m : List ℕ} → Along r m [] r m
   then : {r q e : Registers} {m n : List ℕ} {ws : List Store} {k : ℕ} {ds : List Event} → (r .pc ≡ 0 → ⊥)

@@ -1,5 +1,5 @@
-// The stepper: one instruction, and a run of instructions within a cycle budget. `step`, `run` and, on a lent register
-// record, `record::advance` are the interface, and take any registers and any memory.
+// The stepper: one instruction, and a run of instructions within a cycle budget. `step`, `run` and, on a register
+// record, `record::advance` and `advance_copy` are the interface, and take any registers and any memory.
 ghost use mathlib.Core.Path.{_≡_};
 ghost use Rattle.stepper.specs.Answer.{answerOf, ranOf};
 ghost use Rattle.stepper.specs.Step.{stepOf};

@@ -1,7 +1,6 @@
 // The loop that a step and a run share: a step is one turn of it. A turn finds the next instruction and decides there
 // whether it is refused, passes the budget or is done: a function for a turn, whose answer held the registers, would
-// send
-// them through memory at every turn.
+// send them through memory at every turn.
 ghost use mathlib.Core.Path.{_≡_};
 ghost use lib.ListN.{length};
 ghost use Rattle.registers.specs.Word.{wrappingAdd};
@@ -41,8 +40,7 @@ fn find(mem: &[u8], pc: u16, tc: &[u16; 1024]) -> Found
 }
 
 // The next instruction, wherever it stands, and those after it until PC is `last` or below: 0 is home, and 65,535 is
-// any
-// address, so that one instruction ends the loop.
+// any address, so that one instruction ends the loop.
 pub fn run_until(r: Registers, mem: &mut [u8], budget: u32, last: u16) -> Ended
     requires { ⌜ length (now mem) ≡ 65536 ⌝ }
     ensures { λ q. ⌜ (endedOf q ≡ untilOf last r (now (mem .entry)) budget .answer)

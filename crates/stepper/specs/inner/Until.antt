@@ -1,6 +1,5 @@
 -- A run until PC is a bound or below, its first instruction wherever it stands: what the loop that a step and a run
--- share
--- comes to.
+-- share comes to. An inner matter of the code.
 -- Assumes nothing.
 use Prim.Native.Nat.{ℕ, zero, suc}
 use mathlib.Core.Bool.{Bool, false, _||_}
