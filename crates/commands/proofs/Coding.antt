@@ -11,13 +11,13 @@ use lib.ListN.{getD, length, take, drop, length-append, length-drop, take-append
 use lib.Seq.{take-at, drop-at, take-add, length-take-le}
 use borrow.Author.Tests.{ltb-true, leb-true, le-leb}
 use Rattle.commands.specs.Number.{number, digits, AllBytes}
-use Rattle.commands.specs.Rows.{Operand, widthIn, sizeOf, rows, rowOf, known}
+use Rattle.commands.specs.Rows.{Operand, widthIn, sizeOf, rows, layoutOf, known}
 use Rattle.commands.specs.Bytes.{joined, encodeOf, widthOf, operandsIn, commandOf, parseOf}
 use Rattle.commands.specs.Command.{commandByteOf, operandsOf, commandWith}
 use Rattle.commands.specs.Fits.{FitsRow, Fits}
 use Rattle.commands.specs.Fits.FitsRow.{none, more}
 use Rattle.commands.specs.Progress.{afterOf}
-use Rattle.commands.specs.declared.header.WindowKind.the-variants.{Code, Data, Stack}
+use Rattle.commands.specs.declared.command.HeaderCommand.the-variants.{Code, Data, Stack, Entry}
 use Rattle.commands.specs.declared.command.Command.{Command}
 use Rattle.commands.specs.declared.command.Command.the-variants as Command
 use Rattle.commands.specs.declared.parse.Parsed.{Parsed}
@@ -32,21 +32,21 @@ use Rattle.commands.proofs.Digits.{bytes-drop}
 -- a command's byte is known, it has as many operands as its row, and it is the command of that byte and these operands
 pub record Said (c : Command) : Type 0 where
   pub known-byte : known (commandByteOf c) ≡ true
-  pub as-many : length (operandsOf c) ≡ length (rowOf (commandByteOf c))
+  pub as-many : length (operandsOf c) ≡ length (layoutOf (commandByteOf c))
   pub same : commandWith (commandByteOf c) (operandsOf c) ≡ c
 
 pub said : (c : Command) → Said c
 said Command.End = record { known-byte = refl; as-many = refl; same = refl }
-said (Command.Window Code w) = record { known-byte = refl; as-many = refl; same = refl }
-said (Command.Window Data w) = record { known-byte = refl; as-many = refl; same = refl }
-said (Command.Window Stack w) = record { known-byte = refl; as-many = refl; same = refl }
-said (Command.Entry a l) = record { known-byte = refl; as-many = refl; same = refl }
+said (Command.Header (Code w)) = record { known-byte = refl; as-many = refl; same = refl }
+said (Command.Header (Data w)) = record { known-byte = refl; as-many = refl; same = refl }
+said (Command.Header (Stack w)) = record { known-byte = refl; as-many = refl; same = refl }
+said (Command.Header (Entry a l)) = record { known-byte = refl; as-many = refl; same = refl }
 said (Command.Mark a m) = record { known-byte = refl; as-many = refl; same = refl }
 said (Command.Name a t) = record { known-byte = refl; as-many = refl; same = refl }
 
 -- the command of a byte has that byte, and the operands that it was made with
 command-parts : (b : ℕ) (s : List ℕ) → b < length rows → (commandByteOf (commandOf b s) ≡ b)
-    × (operandsOf (commandOf b s) ≡ operandsIn (rowOf b) s)
+    × (operandsOf (commandOf b s) ≡ operandsIn (layoutOf b) s)
 unfolding commandOf
 command-parts zero s h = (refl, refl)
 command-parts (suc zero) s h = (refl, refl)
@@ -63,7 +63,7 @@ length-joined (one m) = simp (length-append, length-digits, length-joined m)
 
 pub length-encode : (c : Command) → length (encodeOf c) ≡ widthOf c
 unfolding encodeOf widthOf
-length-encode c = omega (arith, length-joined (matched (rowOf (commandByteOf c)) (operandsOf c) (said c .as-many)))
+length-encode c = omega (arith, length-joined (matched (layoutOf (commandByteOf c)) (operandsOf c) (said c .as-many)))
 
 pub width-positive : (c : Command) → 1 ≤ widthOf c
 unfolding widthOf
@@ -77,8 +77,7 @@ width-most c = omega (arith, row-size (commandByteOf c))
 pub after-at : (p : Progress) (c : Command) → afterOf p c .at ≡ p .at + widthOf c
 unfolding afterOf
 after-at p Command.End = refl
-after-at p (Command.Window k w) = refl
-after-at p (Command.Entry a l) = refl
+after-at p (Command.Header c) = refl
 after-at p (Command.Mark a m) = refl
 after-at p (Command.Name a t) = refl
 
@@ -127,7 +126,7 @@ fits-operands (o ∷ os) s a room =
 pub parse-encode : (c : Command) (s : List ℕ) → Fits c → parseOf (encodeOf c ++ s) ≡ Parsed.Found c
 unfolding parseOf encodeOf commandOf widthOf
 parse-encode c s f =
-    let row = rowOf (commandByteOf c) in
+    let row = layoutOf (commandByteOf c) in
     let room : sizeOf row ≤ length (joined row (operandsOf c) ++ s) =
     simp length-append (omega (arith, length-encode c)) in
     rw (said c .known-byte, le-leb _ _ room, operands-joined f s, said c .same)
@@ -141,11 +140,11 @@ module _ (b : ℕ) (s : List ℕ) (c : Command) where
   picked false false e = (cc, cc, cc)
 
   -- what is read from a byte and those after it has that byte and their operands
-  parts : parseOf (b ∷ s) ≡ Parsed.Found c → (commandByteOf c ≡ b) × (operandsOf c ≡ operandsIn (rowOf b) s)
-      × (sizeOf (rowOf b) ≤ length s)
+  parts : parseOf (b ∷ s) ≡ Parsed.Found c → (commandByteOf c ≡ b) × (operandsOf c ≡ operandsIn (layoutOf b) s)
+      × (sizeOf (layoutOf b) ≤ length s)
   unfolding parseOf
   parts e =
-      let p = picked (known b) (leb (sizeOf (rowOf b)) (length s)) e in
+      let p = picked (known b) (leb (sizeOf (layoutOf b)) (length s)) e in
       let q = command-parts b s (ltb-true _ _ (p .0)) in
       (cc (p .2, q .0), cc (p .2, q .1), leb-true _ _ (p .1))
 
@@ -165,10 +164,10 @@ unfolding encodeOf widthOf
 encode-parse [] c a e = absurd (none-found c e)
 encode-parse (b ∷ s) c a e =
     let p = parts b s c e in
-    rw (p .1, p .0, joined-operands (rowOf b) s (bytes-drop 1 a) (p .2), one-add, take-append-drop (sizeOf (rowOf b)) s)
+    rw (p .1, p .0, joined-operands (layoutOf b) s (bytes-drop 1 a) (p .2), one-add, take-append-drop (sizeOf (layoutOf b)) s)
 
 pub fits-parsed : (s : List ℕ) (c : Command) → AllBytes s → parseOf s ≡ Parsed.Found c → Fits c
 fits-parsed [] c a e = absurd (none-found c e)
 fits-parsed (b ∷ s) c a e =
     let p = parts b s c e in
-    rw (p .1, p .0) (fits-operands (rowOf b) s (bytes-drop 1 a) (p .2))
+    rw (p .1, p .0) (fits-operands (layoutOf b) s (bytes-drop 1 a) (p .2))

@@ -6,5 +6,6 @@ pub mod Put
 pub mod Table
 pub mod Coding
 pub mod Causes
+pub mod HeaderLaw
 pub mod Sound
 pub mod Printable

@@ -3,7 +3,7 @@
 -- Assumes nothing.
 use mathlib.Core.Path.{_≡_, refl, subst}
 use mathlib.Core.Bool.{Bool, true, false, _&&_, _||_, and-eq-true-iff, true≢false, and-true}
-use Prim.Native.Nat.{ℕ, zero, suc, _+_, _≤_, _<_}
+use Prim.Native.Nat.{ℕ, zero, suc, _+_, _^_, _≤_, _<_}
 use native.Mathlib.Nat.{add-zero, add-assoc}
 use native.Mathlib.Omega.{arith}
 use mathlib.Core.List.{List, [], _∷_, _++_, append-nil, append-assoc}
@@ -12,13 +12,16 @@ use lib.ListN.{getD, length, take, drop}
 use lib.Seq.{drop-drop}
 use borrow.Author.Tests.{eqb-true, leb-true, le-leb}
 use Rattle.commands.specs.Number.{number, digits}
-use Rattle.commands.specs.Rows.{Operand, any, within, text, widthIn, sizeOf, inRange, rows, rowOf}
+use Rattle.commands.specs.Rows.{Operand, any, within, text, widthIn, sizeOf, inRange, Row, rows, rowOf, layoutOf}
 use Rattle.commands.specs.Bytes.{joined, operandsIn}
 use Rattle.commands.specs.Cause.{allInRange}
 use Rattle.commands.specs.declared.row.Row.{Row as CodeRow}
 use Rattle.commands.specs.declared.command.Operands.{Operands}
 use Rattle.commands.specs.inner.Table.{codeOperand, operandAt, codeRow, codeSize, codeValues, valuesIn, FitsCode}
-use Rattle.commands.specs.inner.Table.{inRangeCode, Widths, Width, none, word, long, quad}
+use Rattle.commands.specs.inner.Table.{inRangeCode, rangesHoldCode, Widths, Width, none, word, long, quad}
+use Rattle.commands.specs.inner.Extent.{OperandsOfWindow}
+use Rattle.commands.specs.declared.row.Extent.{Extent}
+use Rattle.commands.specs.declared.row.Extent.the-variants.{None, Window}
 
 -- ---- the rows
 
@@ -30,34 +33,50 @@ allWide : List Operand → Bool
 allWide [] = true
 allWide (o ∷ os) = wide (widthIn o) && allWide os
 
+-- a window's start and length have two bytes
+windowed : Extent → List Operand → Bool
+windowed None os = true
+windowed (Window least) os = eqb (operandAt os 0 .width) 2 && eqb (operandAt os 1 .width) 2
+
 -- what the code takes for granted of a row: at most four operands of such widths, of at most ten bytes
-taken : List Operand → Bool
-taken os = leb (length os) 4 && (allWide os && leb (sizeOf os) 10)
+taken : Row → Bool
+taken r =
+    let os = r .operands in
+    leb (length os) 4 && (allWide os && (leb (sizeOf os) 10 && windowed (r .extent) os))
 
-allTaken : List (List Operand) → Bool
+allTaken : List Row → Bool
 allTaken [] = true
-allTaken (os ∷ rs) = taken os && allTaken rs
+allTaken (r ∷ rs) = taken r && allTaken rs
 
-taken-at : (rs : List (List Operand)) → allTaken rs ≡ true → (b : ℕ) → taken (getD rs b []) ≡ true
-unfolding taken allTaken allWide
+abbrev blankRow : Row
+blankRow = record { place = 0; extent = None; operands = [] }
+
+taken-at : (rs : List Row) → allTaken rs ≡ true → (b : ℕ) → taken (getD rs b blankRow) ≡ true
+unfolding taken allTaken allWide windowed
 taken-at [] e b = refl
-taken-at (os ∷ rs) e zero = and-eq-true-iff _ _ .0 e .0
-taken-at (os ∷ rs) e (suc b) = taken-at rs (and-eq-true-iff (taken os) _ .0 e .1) b
+taken-at (r ∷ rs) e zero = and-eq-true-iff _ _ .0 e .0
+taken-at (r ∷ rs) e (suc b) = taken-at rs (and-eq-true-iff (taken r) _ .0 e .1) b
+
+record Taken (b : ℕ) : Type 0 where
+  short : length (layoutOf b) ≤ 4
+  wides : allWide (layoutOf b) ≡ true
+  sized : sizeOf (layoutOf b) ≤ 10
+  windows : windowed (rowOf b .extent) (layoutOf b) ≡ true
 
 -- the test of the whole table
-row-taken : (b : ℕ) → taken (rowOf b) ≡ true
-unfolding taken allTaken allWide wide
-row-taken b = taken-at rows refl b
+row-taken : (b : ℕ) → Taken b
+unfolding taken allTaken allWide wide windowed
+row-taken b =
+    let t = and-eq-true-iff (leb (length (layoutOf b)) 4) _ .0 (taken-at rows refl b) in
+    let u = and-eq-true-iff (allWide (layoutOf b)) _ .0 (t .1) in
+    let v = and-eq-true-iff (leb (sizeOf (layoutOf b)) 10) _ .0 (u .1) in
+    record { short = leb-true _ _ (t .0); wides = u .0; sized = leb-true _ _ (v .0); windows = v .1 }
 
-pub row-short : (b : ℕ) → length (rowOf b) ≤ 4
-unfolding taken
-row-short b = leb-true _ _ (and-eq-true-iff _ _ .0 (row-taken b) .0)
+pub row-short : (b : ℕ) → length (layoutOf b) ≤ 4
+row-short b = row-taken b .short
 
-pub row-size : (b : ℕ) → sizeOf (rowOf b) ≤ 10
-unfolding taken
-row-size b =
-    leb-true _ _ (and-eq-true-iff (allWide (rowOf b)) _ .0 (and-eq-true-iff (leb (length (rowOf b)) 4) _ .0
-    (row-taken b) .1) .1)
+pub row-size : (b : ℕ) → sizeOf (layoutOf b) ≤ 10
+row-size b = row-taken b .sized
 
 by-test : (w : ℕ) (a b c d : Bool) → eqb w 0 ≡ a → eqb w 2 ≡ b → eqb w 4 ≡ c → eqb w 8 ≡ d →
     (a || (b || (c || d))) ≡ true → Width w
@@ -80,11 +99,8 @@ width-at (o ∷ os) e zero =
 width-at (o ∷ os) e (suc i) = width-at os (and-eq-true-iff (wide (widthIn o)) _ .0 e .1) i
 
 -- the width of each operand of a row is one that the code reads and writes
-pub row-width : (b i : ℕ) → Width (operandAt (rowOf b) i .width)
-unfolding taken
-row-width b i =
-    width-at (rowOf b) (and-eq-true-iff (allWide (rowOf b)) _ .0
-    (and-eq-true-iff (leb (length (rowOf b)) 4) _ .0 (row-taken b) .1) .0) i
+pub row-width : (b i : ℕ) → Width (operandAt (layoutOf b) i .width)
+row-width b i = width-at (layoutOf b) (row-taken b .wides) i
 
 pub last-width : (w : ℕ) → Width w → (w ≡ 0 → ⊥) → (w ≡ 2 → ⊥) → (w ≡ 4 → ⊥) → w ≡ 8
 last-width w none z t f = absurd (z refl)
@@ -105,13 +121,14 @@ size-code (o ∷ p ∷ q ∷ []) l = simp operand-width (omega arith)
 size-code (o ∷ p ∷ q ∷ r ∷ []) l = simp operand-width (omega arith)
 size-code (o ∷ p ∷ q ∷ r ∷ t ∷ os) l = absurd (omega arith)
 
-values-code : (os : List Operand) (s : List ℕ) → length os ≤ 4 → valuesIn (codeRow os) s ≡ codeValues (operandsIn os s)
-values-code [] s l = refl
-values-code (o ∷ []) s l = simp operand-width
-values-code (o ∷ p ∷ []) s l = simp operand-width
-values-code (o ∷ p ∷ q ∷ []) s l = simp (operand-width, drop-drop)
-values-code (o ∷ p ∷ q ∷ r ∷ []) s l = simp (operand-width, drop-drop)
-values-code (o ∷ p ∷ q ∷ r ∷ t ∷ os) s l = absurd (omega arith)
+values-code : (n : ℕ) (x : Extent) (os : List Operand) (s : List ℕ) → length os ≤ 4 →
+    valuesIn (codeRow (record { place = n; extent = x; operands = os })) s ≡ codeValues (operandsIn os s)
+values-code n x [] s l = refl
+values-code n x (o ∷ []) s l = simp operand-width
+values-code n x (o ∷ p ∷ []) s l = simp operand-width
+values-code n x (o ∷ p ∷ q ∷ []) s l = simp (operand-width, drop-drop)
+values-code n x (o ∷ p ∷ q ∷ r ∷ []) s l = simp (operand-width, drop-drop)
+values-code n x (o ∷ p ∷ q ∷ r ∷ t ∷ os) s l = absurd (omega arith)
 
 -- as many values as operands
 pub data Matched : List Operand → List ℕ → Type 0 where
@@ -166,11 +183,24 @@ ranges-code (one {o} (one {o = p} (one {o = q} (one {o = r} nothing)))) l h =
     simp (in-range o _ (h .0), in-range p _ (h .1), in-range q _ (h .2), in-range r _ (h .3), and-true)
 ranges-code (one (one (one (one (one m))))) l h = absurd (omega arith)
 
+-- ---- windows
+
+two-bytes : (w v : ℕ) → w ≡ 2 → v < 256 ^ w → v < 65536
+two-bytes w v e h = rw e at h
+
+window-fits : (x : Extent) (os : List Operand) → windowed x os ≡ true → (v : Operands)
+    → v .first < 256 ^ operandAt os 0 .width → v .second < 256 ^ operandAt os 1 .width → OperandsOfWindow x v
+unfolding windowed
+window-fits None os t v f g = tt
+window-fits (Window least) os t v f g =
+    let e = and-eq-true-iff _ _ .0 t in
+    (two-bytes _ _ (eqb-true _ _ (e .0)) f, two-bytes _ _ (eqb-true _ _ (e .1)) g)
+
 -- ---- a row of the code, and values of the code
 
 module _ (b : ℕ) (row : CodeRow) (e : row ≡ codeRow (rowOf b)) where
-  pub row-sizes : codeSize row ≡ sizeOf (rowOf b)
-  row-sizes = rw e (size-code (rowOf b) (row-short b))
+  pub row-sizes : codeSize row ≡ sizeOf (layoutOf b)
+  row-sizes = rw e (size-code (layoutOf b) (row-short b))
 
   pub row-widths : Widths row
   row-widths = rw e (row-width b 0, row-width b 1, row-width b 2, row-width b 3)
@@ -179,21 +209,23 @@ module _ (b : ℕ) (row : CodeRow) (e : row ≡ codeRow (rowOf b)) where
   pub row-small : codeSize row ≤ 10
   row-small = rw row-sizes (row-size b)
 
-  pub row-values : (s : List ℕ) → valuesIn row s ≡ codeValues (operandsIn (rowOf b) s)
-  row-values s = rw e (values-code (rowOf b) s (row-short b))
+  pub row-values : (s : List ℕ) → valuesIn row s ≡ codeValues (operandsIn (layoutOf b) s)
+  row-values s = rw e (values-code (rowOf b .place) (rowOf b .extent) (layoutOf b) s (row-short b))
 
   pub row-fits : (v : Operands) → FitsCode row v → FitsCode (codeRow (rowOf b)) v
   row-fits v f = subst (λ (r : CodeRow). FitsCode r v) e f
 
-  module _ (vs : List ℕ) (same : length vs ≡ length (rowOf b)) (v : Operands) (f : v ≡ codeValues vs) where
+  pub row-window : (v : Operands) → FitsCode row v → OperandsOfWindow (row .extent) v
+  row-window v f =
+      let fits = row-fits v f in
+      rw e (window-fits (rowOf b .extent) (layoutOf b) (row-taken b .windows) v (fits .0) (fits .1))
+
+  module _ (vs : List ℕ) (same : length vs ≡ length (layoutOf b)) (v : Operands) (f : v ≡ codeValues vs) where
     pub row-joined :
         (digits (row .first .width) (v .first) ++ digits (row .second .width) (v .second))
         ++ (digits (row .third .width) (v .third) ++ digits (row .fourth .width) (v .fourth))
-        ≡ joined (rowOf b) vs
-    row-joined = rw (e, f) (joined-code (matched (rowOf b) vs same) (row-short b))
+        ≡ joined (layoutOf b) vs
+    row-joined = rw (e, f) (joined-code (matched (layoutOf b) vs same) (row-short b))
 
-    pub row-ranges : Bounded v
-        → (inRangeCode (row .first) (v .first) && (inRangeCode (row .second) (v .second) &&
-        (inRangeCode (row .third) (v .third) && inRangeCode (row .fourth) (v .fourth))))
-        ≡ allInRange (rowOf b) vs
-    row-ranges h = rw (e, f) (ranges-code (matched (rowOf b) vs same) (row-short b) (subst Bounded f h))
+    pub row-ranges : Bounded v → rangesHoldCode row v ≡ allInRange (layoutOf b) vs
+    row-ranges h = rw (e, f) (ranges-code (matched (layoutOf b) vs same) (row-short b) (subst Bounded f h))

@@ -7,7 +7,7 @@ use mathlib.Core.List.{List, [], _∷_, _++_}
 use lib.Dec.{leb}
 use lib.ListN.{length, take, drop}
 use Rattle.commands.specs.Number.{number, digits}
-use Rattle.commands.specs.Rows.{Operand, widthIn, sizeOf, rowOf, known}
+use Rattle.commands.specs.Rows.{Operand, widthIn, sizeOf, layoutOf, known}
 use Rattle.commands.specs.Command.{commandByteOf, operandsOf, commandWith}
 use Rattle.commands.specs.declared.command.Command.{Command}
 use Rattle.commands.specs.declared.parse.Parsed.{Parsed}
@@ -20,10 +20,10 @@ joined (o ∷ os) [] = []
 joined (o ∷ os) (v ∷ vs) = digits (widthIn o) v ++ joined os vs
 
 unfoldable pub encodeOf : Command → List ℕ
-encodeOf c = commandByteOf c ∷ joined (rowOf (commandByteOf c)) (operandsOf c)
+encodeOf c = commandByteOf c ∷ joined (layoutOf (commandByteOf c)) (operandsOf c)
 
 unfoldable pub widthOf : Command → ℕ
-widthOf c = 1 + sizeOf (rowOf (commandByteOf c))
+widthOf c = 1 + sizeOf (layoutOf (commandByteOf c))
 
 -- the operands of a row that some bytes begin with
 abbrev pub operandsIn : List Operand → List ℕ → List ℕ
@@ -31,10 +31,10 @@ operandsIn [] s = []
 operandsIn (o ∷ os) s = number (take (widthIn o) s) ∷ operandsIn os (drop (widthIn o) s)
 
 unfoldable pub commandOf : ℕ → List ℕ → Command
-commandOf b s = commandWith b (operandsIn (rowOf b) s)
+commandOf b s = commandWith b (operandsIn (layoutOf b) s)
 
 -- an unknown byte comes before operands cut short (document 01's causes 1 and 2)
 unfoldable pub parseOf : List ℕ → Parsed
 parseOf [] = Parsed.Cut
 parseOf (b ∷ s) =
-    cond (known b) (cond (leb (sizeOf (rowOf b)) (length s)) (Parsed.Found (commandOf b s)) Parsed.Cut) Parsed.Unknown
+    cond (known b) (cond (leb (sizeOf (layoutOf b)) (length s)) (Parsed.Found (commandOf b s)) Parsed.Cut) Parsed.Unknown

@@ -2,34 +2,34 @@
 -- "Where a ticket stops").
 -- Assumes nothing.
 use Prim.Native.Nat.{ℕ}
-use mathlib.Core.Bool.{Bool, true, cond, not, _&&_, _||_}
+use mathlib.Core.Bool.{Bool, true, cond, _&&_, _||_}
 use mathlib.Core.List.{List, [], _∷_}
 use lib.Dec.{eqb, ltb, leb}
-use Rattle.commands.specs.Rows.{Operand, inRange, rowOf}
-use Rattle.commands.specs.Command.{commandByteOf, operandsOf}
+use Rattle.commands.specs.Rows.{Operand, inRange, rowOf, layoutOf}
+use Rattle.commands.specs.Command.{commandByteOf, operandsOf, windowOf}
 use Rattle.commands.specs.Header.{pastOf, holds}
 use Rattle.commands.specs.declared.header.Window.{Window}
-use Rattle.commands.specs.declared.header.WindowKind.{WindowKind}
-use Rattle.commands.specs.declared.header.WindowKind.the-variants.{Code, Data, Stack}
+use Rattle.commands.specs.declared.row.Extent.{Extent}
+use Rattle.commands.specs.declared.row.Extent.the-variants as Extent
 use Rattle.commands.specs.declared.command.Command.{Command}
 use Rattle.commands.specs.declared.command.Command.the-variants as Command
 use Rattle.commands.specs.declared.header.Header.{Header}
 use Rattle.commands.specs.declared.progress.Progress.{Progress}
 
--- how many of $01 to $04 come before a window
-abbrev pub stageOf : WindowKind → ℕ
-stageOf Code = 0
-stageOf Data = 1
-stageOf Stack = 2
+-- how many commands of the header come before a command
+abbrev pub placeOf : Command → ℕ
+placeOf c = rowOf (commandByteOf c) .place
 
--- 3: $01 to $04 once each, in that order, before all others; marks in rising address, none equal; a name at once after
--- its mark, same address, at most one; nothing is read after the end
+-- marks in rising address, none equal; a name at once after its mark, same address, at most one
+abbrev pub follows : Progress → Command → Bool
+follows p (Command.Header c) = true
+follows p (Command.Mark a c) = eqb (p .count) 0 || ltb (p .last) a
+follows p (Command.Name a t) = p .nameable && eqb a (p .last)
+follows p Command.End = true
+
+-- 3: the header's commands once each, in their order, before all others; nothing is read after the end
 abbrev pub inOrder : Progress → Command → Bool
-inOrder p (Command.Window k w) = eqb (p .stage) (stageOf k)
-inOrder p (Command.Entry a l) = eqb (p .stage) 3
-inOrder p (Command.Mark a c) = eqb (p .stage) 4 && (eqb (p .count) 0 || ltb (p .last) a)
-inOrder p (Command.Name a t) = eqb (p .stage) 4 && (p .nameable && eqb a (p .last))
-inOrder p Command.End = eqb (p .stage) 4
+inOrder p c = eqb (p .stage) (placeOf c) && follows p c
 
 -- 4: each operand is in its range
 abbrev pub allInRange : List Operand → List ℕ → Bool
@@ -38,20 +38,15 @@ allInRange (o ∷ os) [] = true
 allInRange (o ∷ os) (v ∷ vs) = inRange o v && allInRange os vs
 
 unfoldable pub rangesHold : Command → Bool
-rangesHold c = allInRange (rowOf (commandByteOf c)) (operandsOf c)
+rangesHold c = allInRange (layoutOf (commandByteOf c)) (operandsOf c)
 
 -- 5: no window runs past $FFFF; code and stack do not start at $0000
-abbrev pub startHolds : WindowKind → ℕ → Bool
-startHolds Code s = not (eqb s 0)
-startHolds Data s = true
-startHolds Stack s = not (eqb s 0)
+abbrev pub extentHolds : Extent → Window → Bool
+extentHolds Extent.None w = true
+extentHolds (Extent.Window least) w = leb (pastOf w) 65536 && leb least (w .start)
 
 abbrev pub edgesHold : Command → Bool
-edgesHold (Command.Window k w) = leb (pastOf w) 65536 && startHolds k (w .start)
-edgesHold (Command.Entry a l) = true
-edgesHold (Command.Mark a c) = true
-edgesHold (Command.Name a t) = true
-edgesHold Command.End = true
+edgesHold c = extentHolds (rowOf (commandByteOf c) .extent) (windowOf (operandsOf c))
 
 -- two windows share no address: one is empty, or one ends before the other starts
 abbrev pub apart : Window → Window → Bool
@@ -59,17 +54,16 @@ apart v w =
     (eqb (v .length) 0 || eqb (w .length) 0) || (leb (pastOf v) (w .start) || leb (pastOf w) (v .start))
 
 -- 6: a window shares no address with an earlier one; those still to come have length 0
+abbrev pub apartIn : Header → Extent → Window → Bool
+apartIn h Extent.None w = true
+apartIn h (Extent.Window least) w = apart (h .code) w && (apart (h .«data») w && apart (h .stack) w)
+
 abbrev pub separate : Header → Command → Bool
-separate h (Command.Window k w) = apart (h .code) w && (apart (h .«data») w && apart (h .stack) w)
-separate h (Command.Entry a l) = true
-separate h (Command.Mark a c) = true
-separate h (Command.Name a t) = true
-separate h Command.End = true
+separate h c = apartIn h (rowOf (commandByteOf c) .extent) (windowOf (operandsOf c))
 
 -- 7: a mark lies in the code window
 abbrev pub inside : Header → Command → Bool
-inside h (Command.Window k w) = true
-inside h (Command.Entry a l) = true
+inside h (Command.Header c) = true
 inside h (Command.Mark a c) = holds (h .code) a
 inside h (Command.Name a t) = true
 inside h Command.End = true

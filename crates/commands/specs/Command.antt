@@ -4,28 +4,36 @@ use Prim.Native.Nat.{ℕ}
 use mathlib.Core.List.{List, [], _∷_}
 use lib.ListN.{getD}
 use Rattle.commands.specs.declared.header.Window.{Window}
-use Rattle.commands.specs.declared.header.WindowKind.{WindowKind}
-use Rattle.commands.specs.declared.header.WindowKind.the-variants.{Code, Data, Stack}
 use Rattle.commands.specs.declared.command.Claim.{Claim}
+use Rattle.commands.specs.declared.command.HeaderCommand.{HeaderCommand}
+use Rattle.commands.specs.declared.command.HeaderCommand.the-variants.{Code, Data, Stack, Entry}
 use Rattle.commands.specs.declared.command.Command.{Command}
 use Rattle.commands.specs.declared.command.Command.the-variants as Command
 
-abbrev pub windowByteOf : WindowKind → ℕ
-windowByteOf Code = 0x01
-windowByteOf Data = 0x02
-windowByteOf Stack = 0x03
+abbrev pub headerByteOf : HeaderCommand → ℕ
+headerByteOf (Code w) = 0x01
+headerByteOf (Data w) = 0x02
+headerByteOf (Stack w) = 0x03
+headerByteOf (Entry a l) = 0x04
 
 abbrev pub commandByteOf : Command → ℕ
 commandByteOf Command.End = 0x00
-commandByteOf (Command.Window k w) = windowByteOf k
-commandByteOf (Command.Entry a l) = 0x04
+commandByteOf (Command.Header c) = headerByteOf c
 commandByteOf (Command.Mark a c) = 0x05
 commandByteOf (Command.Name a t) = 0x06
 
+abbrev pub windowOperandsOf : Window → List ℕ
+windowOperandsOf w = w .start ∷ w .length ∷ []
+
+abbrev pub headerOperandsOf : HeaderCommand → List ℕ
+headerOperandsOf (Code w) = windowOperandsOf w
+headerOperandsOf (Data w) = windowOperandsOf w
+headerOperandsOf (Stack w) = windowOperandsOf w
+headerOperandsOf (Entry a l) = a ∷ l .0 ∷ []
+
 abbrev pub operandsOf : Command → List ℕ
 operandsOf Command.End = []
-operandsOf (Command.Window k w) = w .start ∷ w .length ∷ []
-operandsOf (Command.Entry a l) = a ∷ l .0 ∷ []
+operandsOf (Command.Header c) = headerOperandsOf c
 operandsOf (Command.Mark a c) = a ∷ c .cost .0 ∷ c .depth .0 ∷ c .need .0 ∷ []
 operandsOf (Command.Name a t) = a ∷ t ∷ []
 
@@ -40,10 +48,10 @@ claimOf v =
 abbrev pub commandsWith : List ℕ → List Command
 commandsWith v =
     Command.End
-    ∷ Command.Window Code (windowOf v)
-    ∷ Command.Window Data (windowOf v)
-    ∷ Command.Window Stack (windowOf v)
-    ∷ Command.Entry (getD v 0 0) (record { 0 = getD v 1 0 })
+    ∷ Command.Header (Code (windowOf v))
+    ∷ Command.Header (Data (windowOf v))
+    ∷ Command.Header (Stack (windowOf v))
+    ∷ Command.Header (Entry (getD v 0 0) (record { 0 = getD v 1 0 }))
     ∷ Command.Mark (getD v 0 0) (claimOf v)
     ∷ Command.Name (getD v 0 0) (getD v 1 0)
     ∷ []

@@ -3,7 +3,7 @@
 -- Assumes nothing.
 use Prim.Native.Nat.{ℕ, _^_, _<_}
 use mathlib.Core.List.{List, [], _∷_}
-use Rattle.commands.specs.Rows.{Operand, widthIn, rowOf}
+use Rattle.commands.specs.Rows.{Operand, widthIn, layoutOf}
 use Rattle.commands.specs.Command.{commandByteOf, operandsOf}
 use Rattle.commands.specs.declared.command.Command.{Command}
 
@@ -13,4 +13,4 @@ pub data FitsRow : List Operand → List ℕ → Type 0 where
       FitsRow (o ∷ os) (v ∷ vs)
 
 abbrev pub Fits : Command → Type 0
-Fits c = FitsRow (rowOf (commandByteOf c)) (operandsOf c)
+Fits c = FitsRow (layoutOf (commandByteOf c)) (operandsOf c)

@@ -2,11 +2,13 @@
 -- Assumes nothing.
 use Prim.Native.Nat.{ℕ, _+_}
 use mathlib.Core.Bool.{Bool, _&&_}
+use mathlib.Core.List.{List, [], _∷_}
 use lib.Dec.{ltb, leb}
-use Rattle.registers.specs.declared.Cycles.{Cycles}
 use Rattle.commands.specs.declared.header.Window.{Window}
-use Rattle.commands.specs.declared.header.WindowKind.{WindowKind}
-use Rattle.commands.specs.declared.header.WindowKind.the-variants.{Code, Data, Stack}
+use Rattle.commands.specs.declared.command.HeaderCommand.{HeaderCommand}
+use Rattle.commands.specs.declared.command.HeaderCommand.the-variants.{Code, Data, Stack, Entry}
+use Rattle.commands.specs.declared.command.Command.{Command}
+use Rattle.commands.specs.declared.command.Command.the-variants as Command
 use Rattle.commands.specs.declared.header.Header.{Header}
 
 abbrev pub noWindow : Window
@@ -24,10 +26,18 @@ abbrev pub blankHeader : Header
 blankHeader =
     record { code = noWindow; «data» = noWindow; stack = noWindow; entry = 0; limit = record { 0 = 0 } }
 
-abbrev pub withWindow : WindowKind → Header → Window → Header
-withWindow Code h w = record { code = w; «data» = h .«data»; stack = h .stack; entry = h .entry; limit = h .limit }
-withWindow Data h w = record { code = h .code; «data» = w; stack = h .stack; entry = h .entry; limit = h .limit }
-withWindow Stack h w = record { code = h .code; «data» = h .«data»; stack = w; entry = h .entry; limit = h .limit }
+-- with one command more: it sets what it states, and leaves the rest
+abbrev pub headerWith : Header → HeaderCommand → Header
+headerWith h (Code w) = record { code = w; «data» = h .«data»; stack = h .stack; entry = h .entry; limit = h .limit }
+headerWith h (Data w) = record { code = h .code; «data» = w; stack = h .stack; entry = h .entry; limit = h .limit }
+headerWith h (Stack w) = record { code = h .code; «data» = h .«data»; stack = w; entry = h .entry; limit = h .limit }
+headerWith h (Entry a l) = record { code = h .code; «data» = h .«data»; stack = h .stack; entry = a; limit = l }
 
-abbrev pub withEntry : Header → ℕ → Cycles → Header
-withEntry h a l = record { code = h .code; «data» = h .«data»; stack = h .stack; entry = a; limit = l }
+-- the commands that state a header, in their order
+abbrev pub headerCommands : Header → List Command
+headerCommands h =
+    Command.Header (Code (h .code))
+    ∷ Command.Header (Data (h .«data»))
+    ∷ Command.Header (Stack (h .stack))
+    ∷ Command.Header (Entry (h .entry) (h .limit))
+    ∷ []

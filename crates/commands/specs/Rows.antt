@@ -1,4 +1,4 @@
--- The table of commands: their operands with widths and ranges (document 01, "The ticket").
+-- The table of commands: their order, and their operands with widths and ranges (document 01, "The ticket").
 -- Assumes nothing.
 use Prim.Native.Nat.{ℕ, _+_}
 use mathlib.Core.Bool.{Bool, true, _&&_}
@@ -6,6 +6,8 @@ use mathlib.Core.List.{List, [], _∷_}
 use lib.Dec.{ltb, leb}
 use lib.ListN.{getD, length}
 use Rattle.commands.specs.Number.{digits}
+use Rattle.commands.specs.declared.row.Extent.{Extent}
+use Rattle.commands.specs.declared.row.Extent.the-variants.{None, Window}
 
 -- an operand: its width, and its range if it has one
 pub data Operand : Type 0 where
@@ -36,27 +38,46 @@ inRange (any w) v = true
 inRange (within w l m) v = between l m v
 inRange (text w) v = printable (digits w v)
 
+-- how many commands of the header come before it; whether its first two operands are a window's start and length, which
+-- then starts at some address or later; its operands
+pub record Row : Type 0 where
+  pub place : ℕ
+  pub extent : Extent
+  pub operands : List Operand
+
 -- by the command's byte
-abbrev pub rows : List (List Operand)
+abbrev pub rows : List Row
 rows =
     -- $00 end
-    []
+    record { place = 4; extent = None; operands = [] }
     -- $01 code window: start, length
-    ∷ (any 2 ∷ within 2 1 4096 ∷ [])
+    ∷ record { place = 0; extent = Window 1; operands = any 2 ∷ within 2 1 4096 ∷ [] }
     -- $02 data window: start, length
-    ∷ (any 2 ∷ within 2 0 8192 ∷ [])
+    ∷ record { place = 1; extent = Window 0; operands = any 2 ∷ within 2 0 8192 ∷ [] }
     -- $03 stack window: start, length
-    ∷ (any 2 ∷ within 2 2 1024 ∷ [])
+    ∷ record { place = 2; extent = Window 1; operands = any 2 ∷ within 2 2 1024 ∷ [] }
     -- $04 entry: address, cycle limit
-    ∷ (any 2 ∷ within 4 1 2000000 ∷ [])
+    ∷ record { place = 3; extent = None; operands = any 2 ∷ within 4 1 2000000 ∷ [] }
     -- $05 mark: address, cost, depth, need
-    ∷ (any 2 ∷ within 4 0 2000000 ∷ within 2 0 1022 ∷ within 2 0 1022 ∷ [])
+    ∷ record {
+      place = 4;
+      extent = None;
+      operands = any 2 ∷ within 4 0 2000000 ∷ within 2 0 1022 ∷ within 2 0 1022 ∷ [];
+    }
     -- $06 name: address, text
-    ∷ (any 2 ∷ text 8 ∷ [])
+    ∷ record { place = 4; extent = None; operands = any 2 ∷ text 8 ∷ [] }
     ∷ []
 
-abbrev pub rowOf : ℕ → List Operand
-rowOf b = getD rows b []
+abbrev pub rowOf : ℕ → Row
+rowOf b = getD rows b (record { place = 0; extent = None; operands = [] })
+
+-- the operands of the command with a byte
+abbrev pub layoutOf : ℕ → List Operand
+layoutOf b = rowOf b .operands
+
+-- how many commands a header has: all of them come before the end
+abbrev pub headerLength : ℕ
+headerLength = rowOf 0x00 .place
 
 abbrev pub known : ℕ → Bool
 known b = ltb b (length rows)

@@ -1,2 +1,3 @@
+pub mod Extent
 pub mod Table
 pub mod Sound

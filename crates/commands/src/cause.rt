@@ -1,43 +1,41 @@
 // Document 01's causes 3 to 7, each as what must hold, and the first that does not.
 ghost use mathlib.Core.Path.{_≡_};
-ghost use Rattle.commands.specs.Rows.{between, printable};
-ghost use Rattle.commands.specs.inner.Table.{inRangeCode};
+ghost use mathlib.Core.Bool.{_&&_};
+ghost use lib.Dec.{eqb};
+ghost use Rattle.commands.specs.Rows.{between, printable, rowOf};
 ghost use Rattle.commands.specs.Number.{digits};
-ghost use Rattle.commands.specs.Cause.{stageOf, inOrder, rangesHold, startHolds, edgesHold, apart, separate};
-ghost use Rattle.commands.specs.Cause.{inside, commandCauseOf};
+ghost use Rattle.commands.specs.Command.{commandByteOf, operandsOf, windowOf};
+ghost use Rattle.commands.specs.Cause.{follows, extentHolds, apart, apartIn, inside, commandCauseOf};
+ghost use Rattle.commands.specs.inner.Table.{codeRow, codeValues, valuesOf, FitsCode, inRangeCode};
+ghost use Rattle.commands.specs.inner.Table.{rangesHoldCode};
+ghost use Rattle.commands.specs.inner.Extent.{OperandsOfWindow, extentCauseOf};
 use crate::command::Command;
-use crate::command::byte_of;
-use crate::command::operands_of;
+use crate::command::Operands;
+use crate::command::window;
 use crate::header::Header;
 use crate::header::Window;
-use crate::header::WindowKind;
 use crate::header::holds;
 use crate::header::past;
 use crate::progress::Progress;
+use crate::row::Extent;
 use crate::row::Operand;
-use crate::row::row_of;
+use crate::row::Row;
 
-// How many of $01 to $04 come before a window.
-fn stage_of(k: WindowKind) -> u8
-    ensures { λ r. ⌜ r ≡ stageOf k ⌝ }
+fn follows(p: Progress, c: Command) -> bool
+    ensures { λ r. ⌜ r ≡ follows p c ⌝ }
 {
-    match k {
-        WindowKind::Code => 0,
-        WindowKind::Data => 1,
-        WindowKind::Stack => 2,
+    match c {
+        Command::Header(_) => true,
+        Command::Mark(a, _) => (p.count == 0) | (p.last < a),
+        Command::Name(a, _) => p.nameable & (a == p.last),
+        Command::End => true,
     }
 }
 
-fn in_order(p: Progress, c: Command) -> bool
-    ensures { λ r. ⌜ r ≡ inOrder p c ⌝ }
+fn in_order(p: Progress, place: u8, c: Command) -> bool
+    ensures { λ r. ⌜ r ≡ (eqb (p .stage) place && follows p c) ⌝ }
 {
-    match c {
-        Command::Window(k, _) => p.stage == stage_of(k),
-        Command::Entry(_, _) => p.stage == 3,
-        Command::Mark(a, _) => (p.stage == 4) & ((p.count == 0) | (p.last < a)),
-        Command::Name(a, _) => (p.stage == 4) & (p.nameable & (a == p.last)),
-        Command::End => p.stage == 4,
-    }
+    (p.stage == place) & follows(p, c)
 }
 
 fn between(least: u64, most: u64, v: u64) -> bool
@@ -73,11 +71,9 @@ fn in_range(o: Operand, v: u64) -> bool
     }
 }
 
-fn ranges_hold(c: Command) -> bool
-    ensures { λ r. ⌜ r ≡ rangesHold c ⌝ }
+fn ranges_hold(row: Row, v: Operands) -> bool
+    ensures { λ r. ⌜ r ≡ rangesHoldCode row v ⌝ }
 {
-    let v = operands_of(c);
-    let row = row_of(byte_of(c));
     let first = row.first;
     let second = row.second;
     let third = row.third;
@@ -86,26 +82,10 @@ fn ranges_hold(c: Command) -> bool
         & (in_range(second, v.second) & (in_range(third, v.third) & in_range(fourth, v.fourth)))
 }
 
-fn start_holds(k: WindowKind, start: u16) -> bool
-    ensures { λ r. ⌜ r ≡ startHolds k start ⌝ }
+fn edges_hold(w: Window, least: u16) -> bool
+    ensures { λ r. ⌜ r ≡ extentHolds (Extent.Window least) w ⌝ }
 {
-    match k {
-        WindowKind::Code => start != 0,
-        WindowKind::Data => true,
-        WindowKind::Stack => start != 0,
-    }
-}
-
-fn edges_hold(c: Command) -> bool
-    ensures { λ r. ⌜ r ≡ edgesHold c ⌝ }
-{
-    match c {
-        Command::Window(k, w) => (past(w) <= 65536) & start_holds(k, w.start),
-        Command::Entry(_, _) => true,
-        Command::Mark(_, _) => true,
-        Command::Name(_, _) => true,
-        Command::End => true,
-    }
+    (past(w) <= 65536) & (least <= w.start)
 }
 
 // No address is in both windows.
@@ -116,19 +96,13 @@ fn apart(v: Window, w: Window) -> bool
         | ((past(v) <= (w.start as u32)) | (past(w) <= (v.start as u32)))
 }
 
-fn separate(h: Header, c: Command) -> bool
-    ensures { λ r. ⌜ r ≡ separate h c ⌝ }
+fn separate(h: Header, w: Window) -> bool
+    ensures { λ r. ⌜ r ≡ apartIn h (Extent.Window 0) w ⌝ }
 {
     let code = h.code;
     let data = h.data;
     let stack = h.stack;
-    match c {
-        Command::Window(_, w) => apart(code, w) & (apart(data, w) & apart(stack, w)),
-        Command::Entry(_, _) => true,
-        Command::Mark(_, _) => true,
-        Command::Name(_, _) => true,
-        Command::End => true,
-    }
+    apart(code, w) & (apart(data, w) & apart(stack, w))
 }
 
 fn inside(h: Header, c: Command) -> bool
@@ -136,30 +110,49 @@ fn inside(h: Header, c: Command) -> bool
 {
     let code = h.code;
     match c {
-        Command::Window(_, _) => true,
-        Command::Entry(_, _) => true,
+        Command::Header(_) => true,
         Command::Mark(a, _) => holds(code, a),
         Command::Name(_, _) => true,
         Command::End => true,
     }
 }
 
-// The first cause that applies, or 0.
-pub fn cause(p: Progress, c: Command) -> u8
+// 5 or 6 of a window, or 0.
+fn extent_cause(h: Header, extent: Extent, v: Operands) -> u8
+    requires { ⌜ OperandsOfWindow extent v ⌝ }
+    ensures { λ r. ⌜ r ≡ extentCauseOf h extent (windowOf (valuesOf v)) ⌝ }
+{
+    match extent {
+        Extent::None => 0,
+        Extent::Window(least) => {
+            let w = window(v);
+            if !edges_hold(w, least) {
+                return 5;
+            }
+            if !separate(h, w) {
+                return 6;
+            }
+            0
+        }
+    }
+}
+
+// The first cause that applies to a command with its row and its operands, or 0.
+pub fn cause(p: Progress, c: Command, row: Row, v: Operands) -> u8
+    requires { ⌜ (row ≡ codeRow (rowOf (commandByteOf c))) × (v ≡ codeValues (operandsOf c)) × FitsCode row v ⌝ }
     ensures { λ r. ⌜ r ≡ commandCauseOf p c ⌝ }
 {
     let h = p.header;
-    if !in_order(p, c) {
+    let extent = row.extent;
+    if !in_order(p, row.place, c) {
         return 3;
     }
-    if !ranges_hold(c) {
+    if !ranges_hold(row, v) {
         return 4;
     }
-    if !edges_hold(c) {
-        return 5;
-    }
-    if !separate(h, c) {
-        return 6;
+    let number = extent_cause(h, extent, v);
+    if number != 0 {
+        return number;
     }
     if !inside(h, c) {
         return 7;

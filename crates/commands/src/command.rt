@@ -3,10 +3,10 @@ ghost use mathlib.Core.Path.{_≡_};
 ghost use Prim.Native.Nat.{_<_};
 ghost use lib.ListN.{length};
 ghost use Rattle.commands.specs.Rows.{rows, rowOf};
-ghost use Rattle.commands.specs.Command.{commandByteOf, operandsOf, commandWith, windowByteOf, windowOf};
+ghost use Rattle.commands.specs.Command.{headerByteOf, commandByteOf, windowOperandsOf, headerOperandsOf};
+ghost use Rattle.commands.specs.Command.{operandsOf, commandWith, windowOf};
 ghost use Rattle.commands.specs.inner.Table.{codeRow, codeValues, valuesOf, FitsCode};
 use crate::header::Window;
-use crate::header::WindowKind;
 use registers::Cycles;
 use registers::StackBytes;
 
@@ -17,10 +17,17 @@ pub struct Claim {
     pub need: StackBytes,
 }
 
-// An entry has its address and the cycle limit; a name its address and its text, eight bytes as one number.
-pub enum Command {
-    Window(WindowKind, Window),
+// A command of the header. An entry has its address and the cycle limit.
+pub enum HeaderCommand {
+    Code(Window),
+    Data(Window),
+    Stack(Window),
     Entry(u16, Cycles),
+}
+
+// A name has its address and its text, eight bytes as one number.
+pub enum Command {
+    Header(HeaderCommand),
     Mark(u16, Claim),
     Name(u16, u64),
     End,
@@ -34,13 +41,14 @@ pub struct Operands {
     pub fourth: u64,
 }
 
-fn window_byte(k: WindowKind) -> u8
-    ensures { λ r. ⌜ r ≡ windowByteOf k ⌝ }
+fn header_byte(c: HeaderCommand) -> u8
+    ensures { λ r. ⌜ r ≡ headerByteOf c ⌝ }
 {
-    match k {
-        WindowKind::Code => 0x01,
-        WindowKind::Data => 0x02,
-        WindowKind::Stack => 0x03,
+    match c {
+        HeaderCommand::Code(_) => 0x01,
+        HeaderCommand::Data(_) => 0x02,
+        HeaderCommand::Stack(_) => 0x03,
+        HeaderCommand::Entry(_, _) => 0x04,
     }
 }
 
@@ -49,8 +57,7 @@ pub fn byte_of(c: Command) -> u8
 {
     match c {
         Command::End => 0x00,
-        Command::Window(k, _) => window_byte(k),
-        Command::Entry(_, _) => 0x04,
+        Command::Header(h) => header_byte(h),
         Command::Mark(_, _) => 0x05,
         Command::Name(_, _) => 0x06,
     }
@@ -67,14 +74,30 @@ fn pair(first: u64, second: u64) -> Operands
     }
 }
 
+fn window_operands(w: Window) -> Operands
+    ensures { λ r. ⌜ r ≡ codeValues (windowOperandsOf w) ⌝ }
+{
+    pair(w.start as u64, w.length as u64)
+}
+
+fn header_operands(c: HeaderCommand) -> Operands
+    ensures { λ r. ⌜ (r ≡ codeValues (headerOperandsOf c)) × FitsCode (codeRow (rowOf (headerByteOf c))) r ⌝ }
+{
+    match c {
+        HeaderCommand::Code(w) => window_operands(w),
+        HeaderCommand::Data(w) => window_operands(w),
+        HeaderCommand::Stack(w) => window_operands(w),
+        HeaderCommand::Entry(a, l) => pair(a as u64, l.0 as u64),
+    }
+}
+
 // The operands of a command.
 pub fn operands_of(c: Command) -> Operands
-    ensures { λ r. ⌜ r ≡ codeValues (operandsOf c) ⌝ }
+    ensures { λ r. ⌜ (r ≡ codeValues (operandsOf c)) × FitsCode (codeRow (rowOf (commandByteOf c))) r ⌝ }
 {
     match c {
         Command::End => pair(0, 0),
-        Command::Window(_, w) => pair(w.start as u64, w.length as u64),
-        Command::Entry(a, l) => pair(a as u64, l.0 as u64),
+        Command::Header(h) => header_operands(h),
         Command::Mark(a, k) => {
             let cost = k.cost;
             let depth = k.depth;
@@ -90,7 +113,8 @@ pub fn operands_of(c: Command) -> Operands
     }
 }
 
-fn window(v: Operands) -> Window
+// The window that two operands are.
+pub fn window(v: Operands) -> Window
     requires { ⌜ (v .first < 65536) × (v .second < 65536) ⌝ }
     ensures { λ r. ⌜ r ≡ windowOf (valuesOf v) ⌝ }
 {
@@ -107,10 +131,10 @@ pub fn command_with(b: u8, v: Operands) -> Command
 {
     match b {
         0x00 => Command::End,
-        0x01 => Command::Window(WindowKind::Code, window(v)),
-        0x02 => Command::Window(WindowKind::Data, window(v)),
-        0x03 => Command::Window(WindowKind::Stack, window(v)),
-        0x04 => Command::Entry(v.first as u16, Cycles(v.second as u32)),
+        0x01 => Command::Header(HeaderCommand::Code(window(v))),
+        0x02 => Command::Header(HeaderCommand::Data(window(v))),
+        0x03 => Command::Header(HeaderCommand::Stack(window(v))),
+        0x04 => Command::Header(HeaderCommand::Entry(v.first as u16, Cycles(v.second as u32))),
         0x05 => Command::Mark(
             v.first as u16,
             Claim {

@@ -1,18 +1,19 @@
-// The header of a ticket: its three windows, its entry and its cycle limit (document 01, "The ticket", $01 to $04).
+// The header of a ticket: its three windows, its entry and its cycle limit (document 01, "The ticket", $01 to $04), what
+// a command states of it, and the commands that state all of it.
 ghost use mathlib.Core.Path.{_≡_};
-ghost use Rattle.commands.specs.Header.{pastOf, holds, withWindow, withEntry};
+ghost use Prim.Native.Nat.{_<_};
+ghost use lib.ListN.{getD};
+ghost use Rattle.commands.specs.Rows.{headerLength};
+ghost use Rattle.commands.specs.Header.{pastOf, holds, headerWith, headerCommands};
+ghost use Rattle.commands.specs.Fits.{Fits};
+use crate::command::Command;
+use crate::command::HeaderCommand;
 use registers::Cycles;
 
 // The addresses from start on; one of length 0 holds none.
 pub struct Window {
     pub start: u16,
     pub length: u16,
-}
-
-pub enum WindowKind {
-    Code,
-    Data,
-    Stack,
 }
 
 // What $01 to $04 say.
@@ -57,50 +58,36 @@ pub fn holds(w: Window, a: u16) -> bool
     (w.start <= a) & ((a as u32) < past(w))
 }
 
-pub fn with_window(h: Header, k: WindowKind, w: Window) -> Header
-    ensures { λ r. ⌜ r ≡ withWindow k h w ⌝ }
+// With one command more.
+pub fn header_with(h: Header, c: HeaderCommand) -> Header
+    ensures { λ r. ⌜ r ≡ headerWith h c ⌝ }
 {
-    let code = h.code;
-    let data = h.data;
-    let stack = h.stack;
-    let entry = h.entry;
-    let limit = h.limit;
-    match k {
-        WindowKind::Code => Header {
-            code: w,
-            data,
-            stack,
-            entry,
-            limit,
-        },
-        WindowKind::Data => Header {
-            code,
-            data: w,
-            stack,
-            entry,
-            limit,
-        },
-        WindowKind::Stack => Header {
-            code,
-            data,
-            stack: w,
-            entry,
-            limit,
-        },
+    let mut after = h;
+    match c {
+        HeaderCommand::Code(w) => after.code = w,
+        HeaderCommand::Data(w) => after.data = w,
+        HeaderCommand::Stack(w) => after.stack = w,
+        HeaderCommand::Entry(a, l) => {
+            after.entry = a;
+            after.limit = l;
+        }
     }
+    after
 }
 
-pub fn with_entry(h: Header, entry: u16, limit: Cycles) -> Header
-    ensures { λ r. ⌜ r ≡ withEntry h entry limit ⌝ }
+// The commands that state a header, by their place.
+pub fn header_command(h: Header, place: u8) -> Command
+    requires { ⌜ place < headerLength ⌝ }
+    ensures { λ r. ⌜ (r ≡ getD (headerCommands h) place Command.End) × Fits r ⌝ }
 {
     let code = h.code;
     let data = h.data;
     let stack = h.stack;
-    Header {
-        code,
-        data,
-        stack,
-        entry,
-        limit,
+    let limit = h.limit;
+    match place {
+        0 => Command::Header(HeaderCommand::Code(code)),
+        1 => Command::Header(HeaderCommand::Data(data)),
+        2 => Command::Header(HeaderCommand::Stack(stack)),
+        _ => Command::Header(HeaderCommand::Entry(h.entry, limit)),
     }
 }

@@ -2,7 +2,7 @@
 // after those before it (document 01, "The ticket"). The ticket as a whole is read and written in `ticket`.
 pub mod header; // windows, and what $01 to $04 say
 pub mod command; // the commands
-mod row; // the table of commands
+pub mod row; // the table of commands
 mod number; // numbers of two, four and eight bytes
 pub mod parse; // a command of bytes
 pub mod encode; // the bytes of a command

@@ -1,11 +1,12 @@
 // What the commands so far leave for the next.
 ghost use mathlib.Core.Path.{_≡_};
-ghost use Rattle.commands.specs.Progress.{initialProgress};
+ghost use Rattle.commands.specs.Progress.{initialProgress, ended};
 use crate::header::Header;
+use crate::row::HEADER;
 
 pub struct Progress {
     pub at: u32, // the offset of the next command
-    pub stage: u8, // how many of $01 to $04 there are; 5 after the end
+    pub stage: u8, // how many commands of the header there are; one more after the end
     pub header: Header, // a window that is still to come has length 0
     pub count: u16, // how many marks there are
     pub last: u16, // the address of the latest mark
@@ -24,4 +25,11 @@ pub fn initial() -> Progress
         last: 0,
         nameable: false,
     }
+}
+
+// Whether the latest command is the end.
+pub fn ended(p: Progress) -> bool
+    ensures { λ r. ⌜ r ≡ ended p ⌝ }
+{
+    p.stage == HEADER + 1
 }

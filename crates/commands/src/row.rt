@@ -1,6 +1,7 @@
-// The table of commands (document 01, "The ticket"): the operands of each, with their widths and ranges, by its byte.
+// The table of commands (document 01, "The ticket"): the place of each, and its operands with their widths and ranges,
+// by its byte.
 ghost use mathlib.Core.Path.{_≡_};
-ghost use Prim.Native.Nat.{_≤_, _<_};
+ghost use Prim.Native.Nat.{_+_, _≤_, _<_};
 ghost use lib.ListN.{length};
 ghost use Rattle.commands.specs.Rows.{rows, rowOf};
 ghost use Rattle.commands.specs.inner.Table.{codeRow, codeSize};
@@ -13,8 +14,16 @@ pub struct Operand {
     pub text: bool,
 }
 
+// What the first two operands are: a window's start and length, where it starts at this address or later, or neither.
+pub enum Extent {
+    None,
+    Window(u16),
+}
+
 // A command has at most four operands; those that it lacks have no bytes.
 pub struct Row {
+    pub place: u8, // how many commands of the header come before it
+    pub extent: Extent,
     pub first: Operand,
     pub second: Operand,
     pub third: Operand,
@@ -23,6 +32,9 @@ pub struct Row {
 
 // The command bytes are those below it.
 pub const COMMANDS: u8 = 7;
+
+// How many commands a header has.
+pub const HEADER: u8 = 4;
 
 const ABSENT: Operand = Operand {
     width: 0,
@@ -93,13 +105,13 @@ pub fn row_of(b: u8) -> Row
     ensures { λ r. ⌜ r ≡ codeRow (rowOf b) ⌝ }
 {
     match b {
-        0x00 => Row { first: ABSENT, second: ABSENT, third: ABSENT, fourth: ABSENT }, // end
-        0x01 => Row { first: ADDRESS, second: CODE_LENGTH, third: ABSENT, fourth: ABSENT }, // code window
-        0x02 => Row { first: ADDRESS, second: DATA_LENGTH, third: ABSENT, fourth: ABSENT }, // data window
-        0x03 => Row { first: ADDRESS, second: STACK_LENGTH, third: ABSENT, fourth: ABSENT }, // stack window
-        0x04 => Row { first: ADDRESS, second: LIMIT, third: ABSENT, fourth: ABSENT }, // entry
-        0x05 => Row { first: ADDRESS, second: COST, third: STACK_BYTES, fourth: STACK_BYTES }, // mark
-        _ => Row { first: ADDRESS, second: TEXT, third: ABSENT, fourth: ABSENT }, // $06 name
+        0x00 => Row { place: HEADER, extent: Extent::None, first: ABSENT, second: ABSENT, third: ABSENT, fourth: ABSENT }, // end
+        0x01 => Row { place: 0, extent: Extent::Window(1), first: ADDRESS, second: CODE_LENGTH, third: ABSENT, fourth: ABSENT }, // code window
+        0x02 => Row { place: 1, extent: Extent::Window(0), first: ADDRESS, second: DATA_LENGTH, third: ABSENT, fourth: ABSENT }, // data window
+        0x03 => Row { place: 2, extent: Extent::Window(1), first: ADDRESS, second: STACK_LENGTH, third: ABSENT, fourth: ABSENT }, // stack window
+        0x04 => Row { place: 3, extent: Extent::None, first: ADDRESS, second: LIMIT, third: ABSENT, fourth: ABSENT }, // entry
+        0x05 => Row { place: HEADER, extent: Extent::None, first: ADDRESS, second: COST, third: STACK_BYTES, fourth: STACK_BYTES }, // mark
+        _ => Row { place: HEADER, extent: Extent::None, first: ADDRESS, second: TEXT, third: ABSENT, fourth: ABSENT }, // $06 name
     }
 }
 
@@ -113,4 +125,12 @@ pub fn size(row: Row) -> usize
     let third = row.third;
     let fourth = row.fourth;
     first.width + second.width + third.width + fourth.width
+}
+
+// How many bytes a command of a row has.
+pub fn width(row: Row) -> u32
+    requires { ⌜ codeSize row ≤ 10 ⌝ }
+    ensures { λ r. ⌜ r ≡ 1 + codeSize row ⌝ }
+{
+    (1 + size(row)) as u32
 }

@@ -37,8 +37,7 @@ named m t = record { address = m .address; claim = m .claim; name = Text t }
 
 -- the marks, the latest first, with one command more: a mark is the latest, a name is its mark's
 abbrev pub marksWith : List Mark → Command → List Mark
-marksWith ms (Command.Window k w) = ms
-marksWith ms (Command.Entry a l) = ms
+marksWith ms (Command.Header c) = ms
 marksWith ms (Command.Mark a k) = unnamed a k ∷ ms
 marksWith [] (Command.Name a t) = []
 marksWith (m ∷ ms) (Command.Name a t) = named m t ∷ ms

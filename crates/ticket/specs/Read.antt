@@ -4,7 +4,6 @@
 use Prim.Native.Nat.{ℕ, zero, suc}
 use mathlib.Core.Bool.{Bool, true, false}
 use mathlib.Core.List.{List, [], _∷_}
-use lib.Dec.{eqb}
 use lib.ListN.{length, drop}
 use Rattle.commands.specs.declared.command.Command.{Command}
 use Rattle.answers.specs.declared.Refusal.{Refusal}
@@ -14,7 +13,7 @@ use Rattle.commands.specs.declared.progress.Progress.{Progress}
 use Rattle.commands.specs.declared.admit.Admitted.{Admitted}
 use Rattle.commands.specs.declared.admit.Admitted.the-variants as Admitted
 use Rattle.commands.specs.Bytes.{parseOf, widthOf}
-use Rattle.commands.specs.Progress.{initialProgress}
+use Rattle.commands.specs.Progress.{initialProgress, ended}
 use Rattle.commands.specs.Admit.{admitOf}
 use Rattle.ticket.specs.declared.fields.Mark.{Mark}
 use Rattle.ticket.specs.declared.reader.Turn.{Turn}
@@ -58,7 +57,7 @@ ifEnded false p ms s f = readOnward (nextCommandOf s p) ms s f
 -- at most n turns
 unfoldable pub readFrom : ℕ → Progress → List Mark → List ℕ → Outcome
 readFrom zero p ms s = refused (refusal 2 (p .at))
-readFrom (suc n) p ms s = ifEnded (eqb (p .stage) 5) p ms s (λ q ks t. readFrom n q ks t)
+readFrom (suc n) p ms s = ifEnded (ended p) p ms s (λ q ks t. readFrom n q ks t)
 
 -- every command has a byte or more, so one turn more than there are bytes is enough
 unfoldable pub readOf : List ℕ → Outcome

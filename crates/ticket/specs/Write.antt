@@ -8,10 +8,9 @@ use lib.Dec.{leb}
 use lib.ListN.{length, take, drop}
 use Rattle.commands.specs.declared.command.Command.{Command}
 use Rattle.commands.specs.declared.command.Command.the-variants as Command
-use Rattle.commands.specs.declared.header.WindowKind.the-variants.{Code, Data, Stack}
-use Rattle.commands.specs.declared.header.Header.{Header}
 use Rattle.commands.specs.declared.admit.Admitted.{Admitted}
 use Rattle.commands.specs.declared.admit.Admitted.the-variants.{Refused, Next}
+use Rattle.commands.specs.Header.{headerCommands}
 use Rattle.commands.specs.Bytes.{encodeOf}
 use Rattle.commands.specs.Progress.{initialProgress}
 use Rattle.commands.specs.Admit.{thenOf}
@@ -21,15 +20,6 @@ use Rattle.ticket.specs.declared.fields.Mark.{Mark}
 use Rattle.ticket.specs.declared.answer.Written.{Written}
 use Rattle.ticket.specs.declared.answer.Written.the-variants as Written
 use Rattle.ticket.specs.Fields.{Fields}
-
--- $01 to $04, once each, in that order
-abbrev pub headerCommands : Header → List Command
-headerCommands h =
-    Command.Window Code (h .code)
-    ∷ Command.Window Data (h .«data»)
-    ∷ Command.Window Stack (h .stack)
-    ∷ Command.Entry (h .entry) (h .limit)
-    ∷ []
 
 abbrev pub nameCommands : ℕ → Name → List Command
 nameCommands a Absent = []
@@ -43,6 +33,7 @@ abbrev pub markCommands : List Mark → List Command
 markCommands [] = []
 markCommands (m ∷ ms) = commandsAt m ++ markCommands ms
 
+-- the header's commands, the marks', the end
 unfoldable pub commandsOf : Fields → List Command
 commandsOf f = headerCommands (f .header) ++ (markCommands (f .marks) ++ (Command.End ∷ []))
 

@@ -21,6 +21,7 @@ use crate::writer::check;
 use crate::writer::put;
 use answers::refuse;
 use commands::admit::Admitted;
+use commands::progress::ended;
 use commands::progress::initial;
 
 pub mod answer; // what reading and writing answer
@@ -36,7 +37,7 @@ pub fn read(bytes: &[u8]) -> Reading
 {
     let mut marks = [blank(); 4096];
     let mut p = initial();
-    while p.stage != 5 {
+    while !ended(p) {
         match next_command(bytes, p) {
             Turn::Refused(r) => return refused(r),
             Turn::Next(q, c) => {

@@ -56,8 +56,7 @@ pub fn entered(m: Mark, c: Command) -> Mark
     ensures { λ r. ⌜ r ≡ enteredOf m c ⌝ }
 {
     match c {
-        Command::Window(_, _) => m,
-        Command::Entry(_, _) => m,
+        Command::Header(_) => m,
         Command::Mark(address, claim) => Mark {
             address,
             claim,

@@ -3,9 +3,10 @@ ghost use mathlib.Core.Path.{_≡_};
 ghost use Prim.Native.Nat.{_+_, _≤_};
 ghost use lib.ListN.{length};
 ghost use Rattle.commands.specs.inner.Sound.{SoundSoFar};
+ghost use Rattle.commands.specs.Header.{headerCommands};
 ghost use Rattle.commands.specs.Progress.{initialProgress};
 ghost use Rattle.ticket.specs.Fields.{fieldsOf, markIndex};
-ghost use Rattle.ticket.specs.Write.{headerCommands, commandsAt, allThen, encodeAll, bytesOf, checkOf};
+ghost use Rattle.ticket.specs.Write.{commandsAt, allThen, encodeAll, bytesOf, checkOf};
 ghost use Rattle.lists.specs.inner.Splice.{spliced};
 ghost use Rattle.ticket.specs.RoundTrip.{AllFit, FitsFields};
 use crate::fields::Mark;
@@ -16,8 +17,9 @@ use commands::admit::then;
 use commands::command::Command;
 use commands::encode::put_command;
 use commands::header::Header;
-use commands::header::WindowKind;
+use commands::header::header_command;
 use commands::progress::initial;
+use commands::row::HEADER;
 
 // Where entry i of a list of marks stands. Past the array's end its last entry stands again, which is refused as a mark
 // that does not rise.
@@ -30,17 +32,13 @@ fn mark_index(i: usize) -> usize
 fn header_checked(h: Header) -> Admitted
     ensures { λ r. ⌜ (r ≡ allThen (Admitted.Next initialProgress) (headerCommands h)) × AllFit (headerCommands h) ⌝ }
 {
-    let code = h.code;
-    let data = h.data;
-    let stack = h.stack;
-    let limit = h.limit;
-    let a = then(
-        Admitted::Next(initial()),
-        Command::Window(WindowKind::Code, code),
-    );
-    let b = then(a, Command::Window(WindowKind::Data, data));
-    let c = then(b, Command::Window(WindowKind::Stack, stack));
-    then(c, Command::Entry(h.entry, limit))
+    let mut a = Admitted::Next(initial());
+    let mut place = 0;
+    while place < HEADER {
+        a = then(a, header_command(h, place));
+        place += 1;
+    }
+    a
 }
 
 fn mark_checked(a: Admitted, m: Mark) -> Admitted
@@ -76,17 +74,17 @@ pub fn check(t: Ticket) -> Admitted
 }
 
 fn put_header(h: Header, out: &mut [u8]) -> usize
-    requires { ⌜ 22 ≤ length (now out) ⌝ }
-    ensures { λ r. ⌜ (now (out .exit) ≡ spliced (now (out .entry)) 0 (encodeAll (headerCommands h))) × (r ≡ 22) ⌝ }
+    requires { ⌜ length (encodeAll (headerCommands h)) ≤ length (now out) ⌝ }
+    ensures { λ r. ⌜ (now (out .exit) ≡ spliced (now (out .entry)) 0 (encodeAll (headerCommands h)))
+        × (r ≡ length (encodeAll (headerCommands h))) ⌝ }
 {
-    let code = h.code;
-    let data = h.data;
-    let stack = h.stack;
-    let limit = h.limit;
-    let a = put_command(Command::Window(WindowKind::Code, code), out, 0);
-    let b = put_command(Command::Window(WindowKind::Data, data), out, a);
-    let c = put_command(Command::Window(WindowKind::Stack, stack), out, b);
-    put_command(Command::Entry(h.entry, limit), out, c)
+    let mut at = 0;
+    let mut place = 0;
+    while place < HEADER {
+        at = put_command(header_command(h, place), out, at);
+        place += 1;
+    }
+    at
 }
 
 fn put_mark(m: Mark, out: &mut [u8], at: usize) -> usize

@@ -5,17 +5,18 @@ use Prim.Native.Nat.{ℕ, _+_, _*_, _≤_, _<_}
 use mathlib.Core.Path.{_≡_}
 use mathlib.Core.Bool.{true}
 use Rattle.lists.specs.Bit.{one}
+use Rattle.commands.specs.Rows.{headerLength}
 use Rattle.answers.specs.declared.Refusal.{Refusal}
 use Rattle.commands.specs.declared.progress.Progress.{Progress}
 use Rattle.commands.specs.declared.admit.Admitted.{Admitted}
 use Rattle.commands.specs.declared.admit.Admitted.the-variants.{Refused, Next}
 
--- Marks rise and lie in the code window, so there are no more of them than it has bytes, which is at most
--- 4,096; and a mark takes at most 22 bytes, with its name.
+-- Marks rise and lie in the code window, so there are no more of them than it has bytes, which is at most 4,096. A
+-- command has at most 11 bytes, so a mark takes at most 22 with its name.
 pub record Sound (p : Progress) : Type 0 where
-  pub stages : p .stage ≤ 5
-  pub early : p .stage < 4 → (p .at ≤ 5 * p .stage) × (p .count ≡ 0)
-  pub late : 4 ≤ p .stage → p .at + 11 * one (p .nameable) ≤ 18 + p .stage + 22 * p .count
+  pub stages : p .stage ≤ headerLength + 1
+  pub unmarked : p .stage < headerLength → p .count ≡ 0
+  pub short : p .at + 11 * one (p .nameable) ≤ 11 * p .stage + 22 * p .count
   pub small : p .header .code .length ≤ 4096
   pub rising : 1 ≤ p .count → (p .header .code .start + p .count ≤ p .last + 1)
       × (p .last < p .header .code .start + p .header .code .length)

@@ -7,7 +7,7 @@ use mathlib.Core.List.{List, [], _∷_}
 use lib.Dec.{eqb, leb}
 use lib.ListN.{getD, take, drop}
 use Rattle.commands.specs.Number.{number, digits}
-use Rattle.commands.specs.Rows.{Operand, any, within, text, widthIn, between, printable, rowOf, sizeOf}
+use Rattle.commands.specs.Rows.{Operand, any, within, text, between, printable, Row}
 use Rattle.commands.specs.declared.row.Operand.{Operand as CodeOperand}
 use Rattle.commands.specs.declared.row.Row.{Row as CodeRow}
 use Rattle.commands.specs.declared.command.Operands.{Operands}
@@ -25,9 +25,17 @@ operandAt [] i = absent
 operandAt (o ∷ os) zero = codeOperand o
 operandAt (o ∷ os) (suc i) = operandAt os i
 
-abbrev pub codeRow : List Operand → CodeRow
-codeRow os =
-    record { first = operandAt os 0; second = operandAt os 1; third = operandAt os 2; fourth = operandAt os 3 }
+abbrev pub codeRow : Row → CodeRow
+codeRow r =
+    let os = r .operands in
+    record {
+      place = r .place;
+      extent = r .extent;
+      first = operandAt os 0;
+      second = operandAt os 1;
+      third = operandAt os 2;
+      fourth = operandAt os 3;
+    }
 
 abbrev pub codeSize : CodeRow → ℕ
 codeSize r = r .first .width + r .second .width + r .third .width + r .fourth .width
@@ -70,3 +78,9 @@ valuesIn r s =
 -- a value is in the range of the code's operand
 abbrev pub inRangeCode : CodeOperand → ℕ → Bool
 inRangeCode o v = cond (o .text) (printable (digits (o .width) v)) (between (o .least) (o .most) v)
+
+abbrev pub rangesHoldCode : CodeRow → Operands → Bool
+rangesHoldCode r v =
+    inRangeCode (r .first) (v .first)
+    && (inRangeCode (r .second) (v .second)
+    && (inRangeCode (r .third) (v .third) && inRangeCode (r .fourth) (v .fourth)))

@@ -7,8 +7,7 @@ use Rattle.ticket.specs.Fields.{unnamed, named}
 
 -- as `marksWith` of the latest mark alone
 abbrev pub enteredOf : Mark → Command → Mark
-enteredOf m (Command.Window k w) = m
-enteredOf m (Command.Entry a l) = m
+enteredOf m (Command.Header c) = m
 enteredOf m (Command.Mark a k) = unnamed a k
 enteredOf m (Command.Name a t) = named m t
 enteredOf m Command.End = m

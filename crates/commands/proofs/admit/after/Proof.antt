@@ -1,12 +1,18 @@
 -- `admit::after` meets its contract: no sum overflows, since sound progress is short.
 -- Assumes nothing.
-use borrow.Author.Needs.{needs}
+use Prim.Native.Nat.{_+_, _<_}
 use native.Mathlib.Omega.{arith}
 use Rattle.commands.specs.Progress.{afterOf}
 use Rattle.commands.proofs.Coding.{width-most}
 use Rattle.commands.proofs.Sound.{bounds}
+use borrow.Author.Needs.{needs}
 use Rattle.commands.proofs.admit.after.Statement.{statement}
 use Rattle.commands.proofs.admit.after.Tie as tie
+
+-- there is room for one command more
+room : (s : tie.Start) → (s .args .p .at + s .args .width < 4294967296) × (s .args .p .stage < 255)
+    × (s .args .p .count < 65535)
+room s = omega (arith, bounds (s .pre .0), s .pre .0 .stages, s .pre .2, width-most (s .args .c))
 
 pub after-spec : {M : Type 1} → statement M
 unfolding afterOf
@@ -15,58 +21,19 @@ after-spec =
     (tie.spec
     (search needs)
     (search needs)
+    (λ c κs. let r = room (c .before .before .before .before .before) in (r .0, r .1))
     (search needs)
-    (λ c κs. omega (
-      arith,
-      bounds (c .before .before .before .before .before .before .pre .0),
-      width-most (c .before .before .before .before .before .before .args .c),
-      c .before .before .before .before .width-of .ensures,
-    ))
+    (λ c κs. let r = room (c .before .before .before .before) in (r .0, r .2))
     (search needs)
+    (λ c κs. room (c .before .before .before) .0)
     (search needs)
-    (λ c κs. omega (
-      arith,
-      bounds (c .before .before .before .before .before .before .pre .0),
-      width-most (c .before .before .before .before .before .before .args .c),
-      c .before .before .before .before .width-of .ensures,
-    ))
-    (search needs)
-    (λ c κs. omega (
-      arith,
-      bounds (c .before .before .before .before .before .pre .0),
-      width-most (c .before .before .before .before .before .args .c),
-      c .before .before .before .width-of .ensures,
-    ))
-    (search needs)
-    (λ c κs. omega (
-      arith,
-      bounds (c .before .before .before .before .pre .0),
-      width-most (c .before .before .before .before .args .c),
-      c .before .before .width-of .ensures,
-    ))
-    (search needs)
-    (λ c κs. omega (
-      arith,
-      bounds (c .before .before .before .before .pre .0),
-      width-most (c .before .before .before .before .args .c),
-      c .before .before .width-of .ensures,
-    ))
+    (λ c κs. let r = room (c .before .before .before) in (r .0, r .1))
     (λ c. simp (
       c .before .before .before .c .given .1,
       c .staged .ensures,
-      c .before .with-window .ensures,
-      c .before .before .before .before .before .width-of .ensures,
+      c .before .header-with .ensures,
+      c .before .before .before .before .before .before .pre .2,
     ))
-    (λ c. simp (
-      c .before .before .before .c2 .given .1,
-      c .staged2 .ensures,
-      c .before .with-entry .ensures,
-      c .before .before .before .before .before .width-of .ensures,
-    ))
-    (λ c. simp (
-      c .before .before .c3 .given .1,
-      c .marked .ensures,
-      c .before .before .before .before .width-of .ensures,
-    ))
-    (λ c. simp (c .before .enum-told .given .1, c .named .ensures, c .before .before .before .width-of .ensures))
-    (λ c. simp (c .before .enum-told2 .given .1, c .staged3 .ensures, c .before .before .before .width-of .ensures)))
+    (λ c. simp (c .before .before .c2 .given .1, c .marked .ensures, c .before .before .before .before .before .pre .2))
+    (λ c. simp (c .before .enum-told .given .1, c .named .ensures, c .before .before .before .before .pre .2))
+    (λ c. simp (c .before .enum-told2 .given .1, c .staged2 .ensures, c .before .before .before .before .pre .2)))

@@ -8,7 +8,7 @@ pub inside-spec : {M : Type 1} → statement M
 inside-spec =
     tie.close
     (tie.spec
-    (search needs) (search needs) (search needs) (search needs) (search needs) (search needs)
-    (λ c. search needs) (λ c. search needs)
+    (search needs) (search needs) (search needs) (search needs) (search needs)
+    (λ c. search needs)
     (λ c. simp (c .before .before .c .given .1, c .holds .ensures))
     (λ c. search needs) (λ c. search needs))

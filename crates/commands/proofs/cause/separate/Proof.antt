@@ -1,4 +1,4 @@
--- `separate` meets its contract: only a window is compared, with each of the three.
+-- `separate` meets its contract: a window is compared with each of the three.
 -- Assumes nothing.
 use borrow.Author.Needs.{needs}
 use Rattle.commands.proofs.cause.separate.Statement.{statement}
@@ -8,12 +8,5 @@ pub separate-spec : {M : Type 1} → statement M
 separate-spec =
     tie.close
     (tie.spec
-    (search needs) (search needs) (search needs) (search needs) (search needs) (search needs) (search needs)
-    (search needs)
-    (λ c. simp (
-      c .before .before .before .before .c .given .1,
-      c .before .before .apart .ensures,
-      c .before .apart2 .ensures,
-      c .apart3 .ensures,
-    ))
-    (λ c. search needs) (λ c. search needs) (λ c. search needs) (λ c. search needs))
+    (search needs) (search needs) (search needs)
+    (λ c. simp (c .before .before .apart .ensures, c .before .apart2 .ensures, c .apart3 .ensures)))

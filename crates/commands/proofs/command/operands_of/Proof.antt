@@ -1,5 +1,7 @@
--- `command::operands_of` meets its contract: a case for each command.
+-- `command::operands_of` meets its contract: a case for each command. That they fit is the ranges of the types.
 -- Assumes nothing.
+use mathlib.Core.Path.{refl}
+use native.Mathlib.Omega.{arith}
 use borrow.Author.Needs.{needs}
 use Rattle.commands.proofs.command.operands_of.Statement.{statement}
 use Rattle.commands.proofs.command.operands_of.Tie as tie
@@ -20,14 +22,7 @@ operands-of-spec =
     (search needs)
     (search needs)
     (search needs)
-    (search needs)
-    (search needs)
-    (search needs)
-    (search needs)
-    (search needs)
-    (search needs)
-    (λ c. simp (c .before .enum-told .given .1, c .pair .ensures))
-    (λ c. simp (c .before .before .before .before .c .given .1, c .pair2 .ensures))
-    (λ c. simp (c .before .before .before .c2 .given .1, c .pair3 .ensures))
-    (λ c. simp (c .before .before .before .before .before .before .before .c3 .given .1))
-    (λ c. simp (c .before .before .c4 .given .1, c .pair4 .ensures)))
+    (λ c. simp (c .before .enum-told .given .1, c .pair .ensures) (refl, (omega arith, omega arith, omega arith, omega arith)))
+    (λ c. rw (c .before .before .c .given .1) (c .header-operands .ensures))
+    (λ c. simp (c .before .before .before .before .before .before .before .c2 .given .1) (refl, (omega arith, omega arith, omega arith, omega arith)))
+    (λ c. simp (c .before .before .c3 .given .1, c .pair2 .ensures) (refl, (omega arith, omega arith, omega arith, omega arith))))

@@ -9,8 +9,8 @@ use native.Mathlib.Omega.{arith}
 use lib.ListN.{length, length-set, length-append}
 use Rattle.lists.specs.inner.Splice.{spliced}
 use Rattle.commands.specs.Number.{digits}
-use Rattle.commands.specs.Rows.{rowOf, sizeOf}
-use Rattle.commands.specs.Bytes.{joined, encodeOf, widthOf}
+use Rattle.commands.specs.Rows.{rowOf, layoutOf, sizeOf}
+use Rattle.commands.specs.Bytes.{encodeOf, widthOf}
 use Rattle.commands.specs.Command.{commandByteOf, operandsOf}
 use Rattle.commands.specs.declared.command.Command.{Command}
 use Rattle.commands.specs.declared.row.Row.{Row as CodeRow}
@@ -45,7 +45,7 @@ module _ (r : tie.After-row-of) where
   is-row : row ≡ codeRow (rowOf (commandByteOf command))
   is-row = rw (r .before .before .byte-of .ensures) at (r .row-of .ensures)
 
-  sizes : codeSize row ≡ sizeOf (rowOf (commandByteOf command))
+  sizes : codeSize row ≡ sizeOf (layoutOf (commandByteOf command))
   sizes = row-sizes (commandByteOf command) row is-row
 
   widths : Widths row
@@ -65,7 +65,7 @@ module _ (r : tie.After-row-of) where
   unfolding encodeOf
   encoded =
       cons (r .before .before .byte-of .ensures) (row-joined (commandByteOf command) row is-row (operandsOf command)
-      (said command .as-many) values (r .before .operands-of .ensures))
+      (said command .as-many) values (r .before .operands-of .ensures .0))
 
   whole : r .before .before .before .before .args .at + 1 + row .first .width + row .second .width + row .third .width +
       row .fourth .width ≡ r .before .before .before .before .args .at + widthOf command

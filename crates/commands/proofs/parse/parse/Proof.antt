@@ -10,7 +10,7 @@ use lib.Seq.{take-all, drop-cons}
 use Rattle.commands.specs.Bytes.{commandOf, parseOf}
 use Rattle.commands.specs.Command.{commandWith}
 use Rattle.commands.specs.inner.Table.{valuesOf, codeSize}
-use Rattle.commands.specs.Rows.{rowOf, sizeOf}
+use Rattle.commands.specs.Rows.{rowOf, layoutOf, sizeOf}
 use Rattle.commands.proofs.Table.{row-sizes, row-small, row-widths, row-values, row-fits}
 use Rattle.commands.specs.declared.command.Operands.{Operands}
 use Rattle.commands.proofs.parse.parse.Statement.{statement}
@@ -31,7 +31,7 @@ module _ (r : tie.After-row-of) where
   abbrev byte : ℕ
   byte = getD (r .before .before .before .before .before .args .s .now) 0 0
 
-  sizes : codeSize (r .row-of .result) ≡ sizeOf (rowOf byte)
+  sizes : codeSize (r .row-of .result) ≡ sizeOf (layoutOf byte)
   sizes = row-sizes byte _ (r .row-of .ensures)
 
   known : byte < 7

@@ -1,0 +1,40 @@
+-- What each command of the header does: a case for each.
+-- Assumes nothing.
+use Prim.Native.Nat.{suc, _≤_, _<_}
+use native.Mathlib.Omega.{arith}
+use mathlib.Core.Path.{_≡_, refl}
+use mathlib.Core.Bool.{true, and-eq-true-iff}
+use mathlib.Core.List.{[], _∷_, _++_}
+use lib.Dec.{leb}
+use lib.ListN.{take}
+use borrow.Author.Tests.{leb-true}
+use Rattle.commands.specs.Rows.{headerLength, between}
+use Rattle.commands.specs.Header.{headerWith, headerCommands}
+use Rattle.commands.specs.Cause.{placeOf, rangesHold}
+use Rattle.commands.specs.declared.header.Window.{Window}
+use Rattle.commands.specs.declared.header.Header.{Header}
+use Rattle.commands.specs.declared.command.HeaderCommand.{HeaderCommand}
+use Rattle.commands.specs.declared.command.HeaderCommand.the-variants.{Code, Data, Stack, Entry}
+use Rattle.commands.specs.declared.command.Command.the-variants as Command
+
+pub record HeaderLaw (h : Header) (c : HeaderCommand) : Type 0 where
+  -- it comes before the marks
+  pub early : placeOf (Command.Header c) < headerLength
+  -- the commands up to its place state what the header has with it
+  pub stated : take (suc (placeOf (Command.Header c))) (headerCommands (headerWith h c))
+      ≡ take (placeOf (Command.Header c)) (headerCommands h) ++ (Command.Header c ∷ [])
+  -- the code window keeps to its range
+  pub small : rangesHold (Command.Header c) ≡ true → h .code .length ≤ 4096 → headerWith h c .code .length ≤ 4096
+
+-- the range of a code window's length
+short : (w : Window) → rangesHold (Command.Header (Code w)) ≡ true → w .length ≤ 4096
+unfolding rangesHold
+short w e =
+    leb-true (w .length) 4096 (and-eq-true-iff (leb 1 (w .length)) _ .0
+    (and-eq-true-iff (between 1 4096 (w .length)) true .0 e .0) .1)
+
+pub header-law : (h : Header) (c : HeaderCommand) → HeaderLaw h c
+header-law h (Code w) = record { early = omega arith; stated = refl; small = λ r s. short w r }
+header-law h (Data w) = record { early = omega arith; stated = refl; small = λ r s. s }
+header-law h (Stack w) = record { early = omega arith; stated = refl; small = λ r s. s }
+header-law h (Entry a l) = record { early = omega arith; stated = refl; small = λ r s. s }
