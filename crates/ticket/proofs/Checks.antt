@@ -15,6 +15,7 @@ use Rattle.answers.specs.declared.Refusal.{Refusal}
 use Rattle.commands.specs.declared.progress.Progress.{Progress}
 use Rattle.commands.specs.declared.admit.Admitted.{Admitted}
 use Rattle.commands.specs.declared.admit.Admitted.the-variants.{Refused, Next}
+use Rattle.commands.specs.Header.{headerCommands}
 use Rattle.commands.specs.Progress.{initialProgress}
 use Rattle.commands.specs.Admit.{thenOf}
 use Rattle.commands.specs.inner.Sound.{SoundSoFar}
@@ -23,14 +24,14 @@ use Rattle.commands.proofs.Sound.{sound-then}
 use Rattle.ticket.specs.declared.fields.Mark.{Mark}
 use Rattle.ticket.specs.declared.answer.Written.the-variants as Written
 use Rattle.ticket.specs.Fields.{Fields, blankMark, markIndex, listed}
-use Rattle.ticket.specs.Write.{headerCommands, commandsAt, markCommands, commandsOf, encodeAll, bytesOf, allThen}
+use Rattle.ticket.specs.Write.{commandsAt, markCommands, commandsOf, encodeAll, bytesOf, allThen}
 use Rattle.ticket.specs.Write.{checkOf, writeOf, outputOf}
 use Rattle.lists.specs.inner.Splice.{spliced}
 use Rattle.ticket.proofs.Stage.{by-admission}
 use Rattle.ticket.proofs.Snoc.{commands-snoc}
 use Rattle.ticket.proofs.ReadWritten.{refused-stays}
 
-all-append : (a : Admitted) (cs ds : List Command) → allThen a (cs ++ ds) ≡ allThen (allThen a cs) ds
+pub all-append : (a : Admitted) (cs ds : List Command) → allThen a (cs ++ ds) ≡ allThen (allThen a cs) ds
 all-append a [] ds = refl
 all-append a (c ∷ cs) ds = all-append (thenOf a c) cs ds
 

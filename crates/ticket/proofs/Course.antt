@@ -5,16 +5,14 @@ use mathlib.Core.Bool.{Bool, true, false}
 use Prim.Native.Nat.{ℕ, zero, suc}
 use native.Mathlib.Omega.{arith}
 use mathlib.Core.List.{List, [], _∷_}
-use lib.Dec.{eqb}
 use lib.ListN.{length, drop}
-use borrow.Author.Tests.{eqb-true}
 use Rattle.commands.specs.declared.command.Command.{Command}
 use Rattle.answers.specs.declared.Refusal.{Refusal}
 use Rattle.commands.specs.declared.parse.Parsed.the-variants.{Found}
 use Rattle.commands.specs.declared.progress.Progress.{Progress}
 use Rattle.commands.specs.Bytes.{parseOf, widthOf}
 use Rattle.commands.specs.Cause.{commandCauseOf}
-use Rattle.commands.specs.Progress.{initialProgress, afterOf}
+use Rattle.commands.specs.Progress.{initialProgress, afterOf, ended}
 use Rattle.ticket.specs.declared.fields.Mark.{Mark}
 use Rattle.ticket.specs.declared.reader.Turn.{Turn}
 use Rattle.ticket.specs.declared.reader.Turn.the-variants as Turn
@@ -24,7 +22,7 @@ use Rattle.ticket.proofs.Turned.{turned}
 
 -- from progress and its marks, over some bytes, by some commands, to the fields
 pub data Course : Progress → List Mark → List ℕ → List Command → Fields → Type 0 where
-  ended : {p : Progress} {ms : List Mark} → p .stage ≡ 5 → Course p ms [] []
+  done : {p : Progress} {ms : List Mark} → ended p ≡ true → Course p ms [] []
       (record { header = p .header; marks = inFileOrder ms })
   goes : {p : Progress} {ms : List Mark} {s : List ℕ} {c : Command} {cs : List Command} {f : Fields} →
       parseOf s ≡ Found c → commandCauseOf p c ≡ 0
@@ -39,10 +37,10 @@ unread e = let z : _≡_ {A = ℕ} 0 1 = cc in omega arith
 -- one turn, with what is known of the rest
 module _ (p : Progress) (ms : List Mark) (f : Fields) (rest : Rest)
     (known : (q : Progress) (ks : List Mark) (t : List ℕ) → rest q ks t ≡ read f → Commanded q ks t f) where
-  at-end : p .stage ≡ 5 → (s : List ℕ) → endOf p ms s ≡ read f → Commanded p ms s f
+  at-end : ended p ≡ true → (s : List ℕ) → endOf p ms s ≡ read f → Commanded p ms s f
   at-end e [] r =
       let same : f ≡ record { header = p .header; marks = inFileOrder ms } = cc in
-      ([], rw same (ended e))
+      ([], rw same (done e))
   at-end e (b ∷ s) r = absurd (unread r)
 
   module _ (s : List ℕ) where
@@ -53,8 +51,8 @@ module _ (p : Progress) (ms : List Mark) (f : Fields) (rest : Rest)
         let k = known (afterOf p c) (marksWith ms c) (drop (widthOf c) s) (rw (t .next) at r) in
         (c ∷ k .0, goes (t .found) (t .free) (k .1))
 
-    at-turn : (b : Bool) → eqb (p .stage) 5 ≡ b → ifEnded b p ms s rest ≡ read f → Commanded p ms s f
-    at-turn true e r = at-end (eqb-true _ _ e) s r
+    at-turn : (b : Bool) → ended p ≡ b → ifEnded b p ms s rest ≡ read f → Commanded p ms s f
+    at-turn true e r = at-end e s r
     at-turn false e r = at-command _ refl r
 
 commanded : (n : ℕ) (f : Fields) (p : Progress) (ms : List Mark) (s : List ℕ) → readFrom n p ms s ≡ read f →

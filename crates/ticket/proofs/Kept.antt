@@ -9,24 +9,22 @@ use Rattle.commands.specs.declared.command.Command.the-variants as Command
 use Rattle.commands.specs.declared.header.Header.{Header}
 use Rattle.commands.specs.declared.progress.Progress.{Progress}
 use Rattle.commands.specs.Progress.{afterOf}
-use Rattle.commands.specs.Header.{blankHeader, withWindow, withEntry}
+use Rattle.commands.specs.Header.{blankHeader, headerWith}
 use Rattle.ticket.specs.declared.fields.Name.{Name}
 use Rattle.ticket.specs.declared.fields.Name.the-variants.{Absent, Text}
 use Rattle.ticket.specs.declared.fields.Mark.{Mark}
 use Rattle.ticket.specs.Fields.{Fields, unnamed, marksWith, inFileOrder}
 use Rattle.ticket.specs.Write.{nameCommands, markCommands, commandsOf}
 
-abbrev pub headerWith : Header → Command → Header
-headerWith h (Command.Window k w) = withWindow k h w
-headerWith h (Command.Entry a l) = withEntry h a l
-headerWith h (Command.Mark a k) = h
-headerWith h (Command.Name a t) = h
-headerWith h Command.End = h
+abbrev pub headerAfter : Header → Command → Header
+headerAfter h (Command.Header c) = headerWith h c
+headerAfter h (Command.Mark a k) = h
+headerAfter h (Command.Name a t) = h
+headerAfter h Command.End = h
 
-pub header-after : (p : Progress) (c : Command) → afterOf p c .header ≡ headerWith (p .header) c
+pub header-after : (p : Progress) (c : Command) → afterOf p c .header ≡ headerAfter (p .header) c
 unfolding afterOf
-header-after p (Command.Window k w) = refl
-header-after p (Command.Entry a l) = refl
+header-after p (Command.Header c) = refl
 header-after p (Command.Mark a k) = refl
 header-after p (Command.Name a t) = refl
 header-after p Command.End = refl
@@ -34,7 +32,7 @@ header-after p Command.End = refl
 -- the fields after some commands, from the header and the marks, the latest first, before them
 abbrev pub keptOf : Header → List Mark → List Command → Fields
 keptOf h ms [] = record { header = h; marks = inFileOrder ms }
-keptOf h ms (c ∷ cs) = keptOf (headerWith h c) (marksWith ms c) cs
+keptOf h ms (c ∷ cs) = keptOf (headerAfter h c) (marksWith ms c) cs
 
 kept-name : (h : Header) (ms : List Mark) (a : ℕ) (k : Claim) (n : Name) (cs ds : List Command) →
     keptOf h (unnamed a k ∷ ms) ((nameCommands a n ++ cs) ++ ds)

@@ -15,6 +15,7 @@ pub mod Checks
 pub mod Free
 pub mod WrittenRead
 pub mod Parts
+pub mod HeaderParts
 pub mod Says
 pub mod Readable
 pub mod Accepts

@@ -9,21 +9,22 @@ use lib.ListN.{length, getD, length-append}
 use Rattle.commands.specs.declared.command.Command.{Command}
 use Rattle.commands.specs.declared.command.Command.the-variants as Command
 use Rattle.commands.specs.declared.header.Header.{Header}
+use Rattle.commands.specs.Header.{headerCommands}
 use Rattle.commands.specs.Bytes.{encodeOf}
 use Rattle.commands.proofs.Coding.{length-encode, width-positive}
 use Rattle.ticket.specs.declared.fields.Mark.{Mark}
 use Rattle.ticket.specs.declared.fields.Ticket.{Ticket}
 use Rattle.ticket.specs.Fields.{blankMark, markIndex, listed, fieldsOf}
-use Rattle.ticket.specs.Write.{headerCommands, commandsAt, markCommands, commandsOf, encodeAll, bytesOf}
+use Rattle.ticket.specs.Write.{commandsAt, markCommands, commandsOf, encodeAll, bytesOf}
 use Rattle.ticket.proofs.Snoc.{commands-snoc}
 
-encode-append : (cs ds : List Command) → encodeAll (cs ++ ds) ≡ encodeAll cs ++ encodeAll ds
+pub encode-append : (cs ds : List Command) → encodeAll (cs ++ ds) ≡ encodeAll cs ++ encodeAll ds
 encode-append [] ds = refl
 encode-append (c ∷ cs) ds = rw (encode-append cs ds, append-assoc)
 
-pub length-header : (h : Header) → length (encodeAll (headerCommands h)) ≡ 22
-unfolding encodeOf
-length-header h = refl
+-- how many bytes a header has
+abbrev pub headerSize : Header → ℕ
+headerSize h = length (encodeAll (headerCommands h))
 
 -- the bytes of the first n marks
 abbrev pub marksBytes : List Mark → ℕ → List ℕ
@@ -53,7 +54,7 @@ module _ (t : Ticket) where
       ∙ (ap (λ (s : List ℕ). header ++ s) tail ∙ sym (append-assoc header (encodeAll cs) (encodeOf Command.End)))
 
   -- after i of the marks there is room for the end
-  pub end-room : (i : ℕ) → i ≤ t .count → 22 + length (marksBytes (t .marks) i) + 1 ≤ length (bytesOf (fieldsOf t))
+  pub end-room : (i : ℕ) → i ≤ t .count → headerSize (t .header) + length (marksBytes (t .marks) i) + 1 ≤ length (bytesOf (fieldsOf t))
   end-room i h =
       let longer = rw (add-sub-of-le h) at (marks-longer (t .marks) i (t .count - i)) in
       let header = encodeAll (headerCommands (t .header)) in
@@ -62,14 +63,13 @@ module _ (t : Ticket) where
         arith,
         length-append (header ++ marks) (encodeOf Command.End),
         length-append header marks,
-        length-header (t .header),
         length-encode Command.End,
         width-positive Command.End,
       ))
 
   -- and for one mark more, if there is one
   pub mark-room : (i : ℕ) {j : ℕ} → j ≡ markIndex i → i < t .count →
-      22 + length (marksBytes (t .marks) i) + length (encodeAll (commandsAt (getD (t .marks) j blankMark)))
+      headerSize (t .header) + length (marksBytes (t .marks) i) + length (encodeAll (commandsAt (getD (t .marks) j blankMark)))
       ≤ length (bytesOf (fieldsOf t))
   mark-room i {j} e h =
       omega (

@@ -5,18 +5,17 @@ use Prim.Native.Nat.{ℕ, zero, suc, _+_, _-_, _≤_, _<_}
 use native.Mathlib.Numerals.{unary-clauses}
 use native.Mathlib.Omega.{arith}
 use mathlib.Core.Path.{_≡_, refl, _∙_}
+use mathlib.Core.Bool.{true, false}
 use mathlib.Core.List.{List, []}
-use lib.Dec.{eqb}
 use lib.ListN.{length, getD, set, drop, replicate, length-drop, drop-of-length-le}
 use lib.Seq.{drop-drop, drop-cons}
-use borrow.Author.Tests.{ne-eqb}
 use Rattle.commands.specs.declared.command.Command.{Command}
 use Rattle.answers.specs.declared.Refusal.{Refusal}
 use Rattle.commands.specs.declared.parse.Parsed.the-variants.{Found}
 use Rattle.commands.specs.declared.progress.Progress.{Progress}
 use Rattle.commands.specs.Bytes.{parseOf, widthOf}
 use Rattle.commands.specs.Cause.{commandCauseOf}
-use Rattle.commands.specs.Progress.{initialProgress, afterOf}
+use Rattle.commands.specs.Progress.{initialProgress, afterOf, ended}
 use Rattle.commands.proofs.Causes.{allowed}
 use Rattle.commands.proofs.Coding.{parse-room, width-positive, after-at}
 use Rattle.commands.proofs.Sound.{bounds}
@@ -53,20 +52,20 @@ reached-start s =
     }
 
 one-turn : (n : ℕ) (p : Progress) (ms : List Mark) (s : List ℕ) → 0 < n →
-    readFrom n p ms s ≡ ifEnded (eqb (p .stage) 5) p ms s (readFrom (n - 1))
+    readFrom n p ms s ≡ ifEnded (ended p) p ms s (readFrom (n - 1))
 unfolding readFrom
 one-turn zero p ms s l = absurd (omega arith)
 one-turn (suc n) p ms s l = simp unary-clauses
 
 module _ (s : List ℕ) (array : List Mark) (p : Progress) (h : ReadState s array p) where
-  turn : readOf s ≡ ifEnded (eqb (p .stage) 5) p (h .marks) (drop (p .at) s) (readFrom (h .left - 1))
+  turn : readOf s ≡ ifEnded (ended p) p (h .marks) (drop (p .at) s) (readFrom (h .left - 1))
   turn = h .rest ∙ one-turn (h .left) p (h .marks) (drop (p .at) s) (omega arith)
 
   -- before the end: one turn more
-  module _ (go : p .stage ≡ 5 → ⊥) where
+  module _ (go : ended p ≡ false) where
     read-on : readOf s ≡ readOnward (nextCommandOf (drop (p .at) s) p) (h .marks) (drop (p .at) s)
         (readFrom (h .left - 1))
-    read-on = simp (ne-eqb (p .stage) 5 go) at turn
+    read-on = simp go at turn
 
     pub reading-refused : (r : Refusal) → nextCommandOf (drop (p .at) s) p ≡ Turn.Refused r → readOf s ≡ refused r
     reading-refused r e = rw e at read-on
@@ -115,16 +114,16 @@ module _ (s : List ℕ) (array : List Mark) (p : Progress) (h : ReadState s arra
           (rw (t .next) (moved c (t .found) .0), n .inside, bounds (n .kept .sound) .0)
 
   -- after the end
-  module _ (end : p .stage ≡ 5) where
-    ended : readOf s ≡ endOf p (h .marks) (drop (p .at) s)
-    ended = simp end at turn
+  module _ (end : ended p ≡ true) where
+    at-end : readOf s ≡ endOf p (h .marks) (drop (p .at) s)
+    at-end = simp end at turn
 
     pub reading-long : p .at < length s → readOf s ≡ refused (refusal 8 (p .at))
-    reading-long l = rw (drop-cons s (p .at) 0) at ended
+    reading-long l = rw (drop-cons s (p .at) 0) at at-end
 
     pub reading-done : length s ≤ p .at → record {
       answer = Answer.Read;
       ticket = record { header = p .header; count = p .count; marks = array };
     } ≡ readingOf (readOf s)
     unfolding ticketOf filled
-    reading-done l = rw (rw (drop-of-length-le s l) at ended, h .held, length-ordered, h .kept .counted)
+    reading-done l = rw (rw (drop-of-length-le s l) at at-end, h .held, length-ordered, h .kept .counted)

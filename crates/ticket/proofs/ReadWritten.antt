@@ -6,7 +6,6 @@ use mathlib.Core.Path.{_≡_, refl, ap, _∙_}
 use mathlib.Core.Bool.{Bool, true, false}
 use mathlib.Core.List.{List, [], _∷_, _++_}
 use native.Mathlib.Omega.{arith}
-use lib.Dec.{eqb}
 use lib.ListN.{length, length-append}
 use Rattle.commands.specs.declared.command.Command.{Command}
 use Rattle.commands.specs.declared.command.Command.the-variants as Command
@@ -15,7 +14,7 @@ use Rattle.commands.specs.declared.progress.Progress.{Progress}
 use Rattle.commands.specs.declared.admit.Admitted.the-variants.{Refused, Next}
 use Rattle.commands.specs.Every.{none, more}
 use Rattle.commands.specs.Bytes.{encodeOf}
-use Rattle.commands.specs.Progress.{initialProgress}
+use Rattle.commands.specs.Progress.{initialProgress, ended}
 use Rattle.commands.proofs.Coding.{length-encode, width-positive}
 use Rattle.ticket.specs.declared.fields.Name.{Name}
 use Rattle.ticket.specs.declared.fields.Name.the-variants.{Absent, Text}
@@ -26,25 +25,25 @@ use Rattle.ticket.specs.Write.{nameCommands, markCommands, commandsOf, e
 use Rattle.ticket.specs.RoundTrip.{AllFit, FitsFields, answered}
 use Rattle.ticket.proofs.Stage.{ends, stage-after}
 use Rattle.ticket.proofs.Step.{step}
-use Rattle.ticket.proofs.Kept.{header-after, headerWith, keptOf, kept}
+use Rattle.ticket.proofs.Kept.{header-after, headerAfter, keptOf, kept}
 
 -- the commands left, none after the end (true), or before it (false): the last is the end, and no other is
-data Ended : Bool → List Command → Type 0 where
-  after : Ended true []
-  before : {c : Command} {cs : List Command} → Ended (ends c) cs → Ended false (c ∷ cs)
+data Closed : Bool → List Command → Type 0 where
+  after : Closed true []
+  before : {c : Command} {cs : List Command} → Closed (ends c) cs → Closed false (c ∷ cs)
 
-ended-name : (a : ℕ) (n : Name) (cs ds : List Command) → Ended false (cs ++ ds) →
-    Ended false ((nameCommands a n ++ cs) ++ ds)
-ended-name a Absent cs ds e = e
-ended-name a (Text t) cs ds e = before e
+closed-name : (a : ℕ) (n : Name) (cs ds : List Command) → Closed false (cs ++ ds) →
+    Closed false ((nameCommands a n ++ cs) ++ ds)
+closed-name a Absent cs ds e = e
+closed-name a (Text t) cs ds e = before e
 
-ended-marks : (ms : List Mark) → Ended false (markCommands ms ++ (Command.End ∷ []))
-ended-marks [] = before after
-ended-marks (m ∷ ms) = before (ended-name (m .address) (m .name) (markCommands ms) _ (ended-marks ms))
+closed-marks : (ms : List Mark) → Closed false (markCommands ms ++ (Command.End ∷ []))
+closed-marks [] = before after
+closed-marks (m ∷ ms) = before (closed-name (m .address) (m .name) (markCommands ms) _ (closed-marks ms))
 
-ended : (f : Fields) → Ended false (commandsOf f)
+closed : (f : Fields) → Closed false (commandsOf f)
 unfolding commandsOf
-ended f = before (before (before (before (ended-marks (f .marks)))))
+closed f = before (before (before (before (closed-marks (f .marks)))))
 
 -- what comes after a refused command changes nothing
 pub refused-stays : (r : Refusal) (cs : List Command) → allThen (Refused r) cs ≡ Refused r
@@ -55,18 +54,18 @@ shorter : (c : Command) (s : List ℕ) (n : ℕ) → length (encodeOf c ++ s) < 
 shorter c s n l = omega (arith, length-append (encodeOf c) s, length-encode c, width-positive c)
 
 -- every command has a byte or more, so more turns than bytes are enough
-read-all : {b : Bool} {cs : List Command} (n : ℕ) (p : Progress) (ms : List Mark) → Ended b cs → AllFit cs →
-    eqb (p .stage) 5 ≡ b → length (encodeAll cs) < n → readFrom n p ms (encodeAll cs)
+read-all : {b : Bool} {cs : List Command} (n : ℕ) (p : Progress) (ms : List Mark) → Closed b cs → AllFit cs →
+    ended p ≡ b → length (encodeAll cs) < n → readFrom n p ms (encodeAll cs)
     ≡ answered (allThen (Next p) cs) (keptOf (p .header) ms cs)
 unfolding readFrom
 read-all zero p ms d fits e l = absurd (omega arith)
 read-all (suc n) p ms after none e l = rw e
 read-all (suc n) p ms (before {c} {cs} d) (more fit fits) e l =
     step n p ms c (encodeAll cs) e fit (λ a. answered (allThen a cs)
-    (keptOf (headerWith (p .header) c) (marksWith ms c) cs))
+    (keptOf (headerAfter (p .header) c) (marksWith ms c) cs))
     (λ r. rw refused-stays) (λ h. rw (← header-after p c) (read-all n _ _ d fits (stage-after p c h) (shorter c _ n l)))
 
 pub read-written : (f : Fields) → FitsFields f → readOf (bytesOf f) ≡ answered (checkOf f) f
 unfolding readOf bytesOf checkOf
 read-written f fits =
-    read-all _ initialProgress [] (ended f) fits refl (omega arith) ∙ ap (answered (checkOf f)) (kept f)
+    read-all _ initialProgress [] (closed f) fits refl (omega arith) ∙ ap (answered (checkOf f)) (kept f)

@@ -13,7 +13,9 @@ use Rattle.commands.specs.declared.header.Header.{Header}
 use Rattle.commands.specs.declared.progress.Progress.{Progress}
 use Rattle.commands.specs.declared.admit.Admitted.the-variants.{Next}
 use Rattle.commands.specs.Number.{digits}
+use Rattle.commands.specs.Header.{headerCommands}
 use Rattle.commands.specs.Bytes.{widthOf}
+use Rattle.commands.specs.Rows.{headerLength}
 use Rattle.commands.specs.Progress.{initialProgress, markedOf, afterOf}
 use Rattle.commands.specs.Cause.{inOrder, rangesHold, edgesHold, separate, inside, commandCauseOf}
 use Rattle.commands.proofs.Causes.{allowed, allow}
@@ -22,15 +24,15 @@ use Rattle.ticket.specs.declared.fields.Name.{Name}
 use Rattle.ticket.specs.declared.fields.Name.the-variants.{Absent, Text}
 use Rattle.ticket.specs.declared.fields.Mark.{Mark}
 use Rattle.ticket.specs.Fields.{Fields}
-use Rattle.ticket.specs.Write.{headerCommands, nameCommands, markCommands, commandsOf, checkOf}
+use Rattle.ticket.specs.Write.{nameCommands, markCommands, commandsOf, checkOf}
 use Rattle.commands.specs.Every.{Every}
 use Rattle.ticket.specs.Rules.{Between, In, HeaderRules, ClaimRules, NameRule, absent, text, MarkRules, Rising}
 use Rattle.ticket.specs.Rules.{Readable}
-use Rattle.ticket.proofs.Says.{true-says, leb-says, ltb-says, eqb-says, positive-says, after-says}
+use Rattle.ticket.proofs.Says.{true-says, leb-says, ltb-says, eqb-says, after-says}
 use Rattle.ticket.proofs.Says.{printable-says, apart-says}
 use Rattle.ticket.proofs.Free.{Free, free-admitted, admitted-free}
 
-ruleset tests = (true-says, and-eq-true-iff, leb-says, ltb-says, eqb-says, positive-says, after-says, apart-says)
+ruleset tests = (true-says, and-eq-true-iff, leb-says, ltb-says, eqb-says, after-says, apart-says)
 
 cause-says : (p : Progress) (c : Command) → (commandCauseOf p c ≡ 0) ↔ ((inOrder p c ≡ true) × (rangesHold c ≡ true)
     × (edgesHold c ≡ true) × (separate (p .header) c ≡ true) × (inside (p .header) c ≡ true))
@@ -41,9 +43,13 @@ cause-says p c = (
 
 -- ---- the header
 
--- after the four commands of a header, of 5, 5, 5 and 7 bytes
+-- after some commands
+abbrev afterAll : Progress → List Command → Progress
+afterAll p [] = p
+afterAll p (c ∷ cs) = afterAll (afterOf p c) cs
+
 abbrev headed : Header → Progress
-headed h = record { at = 22; stage = 4; header = h; count = 0; last = 0; nameable = false }
+headed h = afterAll initialProgress (headerCommands h)
 
 header-says : (h : Header) (cs : List Command) → Free initialProgress (headerCommands h ++ cs) ↔ (HeaderRules h
     × Free (headed h) cs)
@@ -52,7 +58,7 @@ header-says h cs = simp (cause-says, tests) (λ f. (search arith, f .1 .1 .1 .1)
 
 -- ---- one mark and its name, after a header and perhaps other marks
 
-module _ (p : Progress) (e : p .stage ≡ 4) where
+module _ (p : Progress) (e : p .stage ≡ headerLength) where
   mark-says : (a : ℕ) (k : Claim) → (commandCauseOf p (Command.Mark a k) ≡ 0) ↔ ((1 ≤ p .count → p .last < a)
       × ClaimRules k × In (p .header .code) a)
   unfolding rangesHold
@@ -83,8 +89,8 @@ text-of : {t : ℕ} → NameRule (Text t) → Every (Between 0x20 0x7e) (digits 
 text-of (text r) = r
 
 -- what comes after a mark and its name depends on the header, how many marks there are and the last address
-module _ (p : Progress) (e : p .stage ≡ 4) (a : ℕ) (cs ds : List Command) (R : Header → ℕ → ℕ →
-    Type 0) (rest : (q : Progress) → q .stage ≡ 4 → Free q (cs ++ ds) ↔ R (q .header) (q .count) (q .last)) where
+module _ (p : Progress) (e : p .stage ≡ headerLength) (a : ℕ) (cs ds : List Command) (R : Header → ℕ → ℕ →
+    Type 0) (rest : (q : Progress) → q .stage ≡ headerLength → Free q (cs ++ ds) ↔ R (q .header) (q .count) (q .last)) where
   name-says : (w : ℕ) (n : Name) → Free (markedOf p w a) ((nameCommands a n ++ cs) ++ ds) ↔ (NameRule n
       × R (p .header) (p .count + 1) a)
   unfolding afterOf
@@ -112,7 +118,7 @@ rising-says m (n ∷ ms) = (rising-more, λ r. Rising.more (r .0) (r .1))
 abbrev Marked : List Mark → Header → ℕ → ℕ → Type 0
 Marked ms h n l = Every (MarkRules h) ms × (1 ≤ n → Under l ms) × Rising ms
 
-marks-says : (ms : List Mark) (p : Progress) → p .stage ≡ 4 →
+marks-says : (ms : List Mark) (p : Progress) → p .stage ≡ headerLength →
     Free p (markCommands ms ++ (Command.End ∷ [])) ↔ Marked ms (p .header) (p .count) (p .last)
 unfolding afterOf
 marks-says [] p e = (λ f. (Every.none, λ o. tt, Rising.none), λ r. (end-free p e, tt))
@@ -137,7 +143,7 @@ marks-says (m ∷ ms) p e =
 -- ---- the ticket
 
 readable-says : (f : Fields) → Free initialProgress (commandsOf f) ↔ Readable f
-unfolding commandsOf
+unfolding commandsOf afterOf
 readable-says f =
     let head = header-says (f .header) (markCommands (f .marks) ++ (Command.End ∷ [])) in
     let marks = marks-says (f .marks) (headed (f .header)) refl in (

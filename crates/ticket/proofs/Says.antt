@@ -29,9 +29,6 @@ ltb-says a b = (ltb-true a b, lt-ltb a b)
 pub eqb-says : (a b : ℕ) → (eqb a b ≡ true) ↔ (a ≡ b)
 eqb-says a b = (eqb-true a b, eq-eqb a b)
 
-pub positive-says : (n : ℕ) → (not (eqb n 0) ≡ true) ↔ (1 ≤ n)
-positive-says n = (λ e. omega (arith, eqb-false n 0 (not-true _ e)), λ h. rw (ne-eqb n 0 (omega arith)))
-
 neither : (a b : Bool) → (a || b) ≡ false → (a ≡ false) × (b ≡ false)
 neither false b e = (refl, e)
 neither true b e = absurd (true≢false e)

@@ -5,7 +5,6 @@ use native.Mathlib.Omega.{arith}
 use mathlib.Core.Path.{_≡_}
 use mathlib.Core.Bool.{true, and-eq-true-iff}
 use mathlib.Core.List.{List, [], _∷_, _++_}
-use lib.Dec.{eqb}
 use lib.ListN.{length, getD, set, replicate, length-append}
 use lib.Seq.{append-snoc, set-append-seam, getD-append-seam, set-getD}
 use Rattle.commands.specs.declared.command.Command.{Command}
@@ -13,6 +12,7 @@ use Rattle.commands.specs.declared.command.Command.the-variants as Command
 use Rattle.commands.specs.declared.progress.Progress.{Progress}
 use Rattle.commands.specs.Cause.{inOrder}
 use Rattle.commands.specs.Progress.{afterOf}
+use Rattle.commands.proofs.Causes.{in-order}
 use Rattle.ticket.specs.declared.fields.Mark.{Mark}
 use Rattle.ticket.specs.Fields.{blankMark, named, marksWith, inFileOrder}
 use Rattle.ticket.specs.inner.Entered.{enteredOf}
@@ -57,11 +57,10 @@ module _ (n : ℕ) (d : Mark) (p : Progress) where
   pub entered : (ms : List Mark) → Consistent p ms → (c : Command) → inOrder p c ≡ true → afterOf p c .count ≤ n →
       Entered ms c
   unfolding afterOf
-  entered ms k (Command.Window x w) o l = set-getD (filled n (inFileOrder ms)) _ d
-  entered ms k (Command.Entry a x) o l = set-getD (filled n (inFileOrder ms)) _ d
+  entered ms k (Command.Header c) o l = set-getD (filled n (inFileOrder ms)) _ d
   entered ms k (Command.Mark a x) o l =
       let i : p .count + 1 - 1 ≡ length (inFileOrder ms) = omega (arith, length-ordered ms) in
       rw i (set-next n (inFileOrder ms) _ (omega (arith, length-ordered ms)))
   entered ms k (Command.Name a t) o l =
-      entered-name ms k a t (and-eq-true-iff (p .nameable) _ .0 (and-eq-true-iff (eqb (p .stage) 4) _ .0 o .1) .0)
+      entered-name ms k a t (and-eq-true-iff (p .nameable) _ .0 (in-order p (Command.Name a t) o .1) .0)
   entered ms k Command.End o l = set-getD (filled n (inFileOrder ms)) _ d

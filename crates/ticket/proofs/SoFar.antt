@@ -2,38 +2,39 @@
 -- Assumes nothing.
 use mathlib.Core.Path.{_≡_, refl}
 use mathlib.Core.Bool.{true, false, cond, and-eq-true-iff}
-use Prim.Native.Nat.{ℕ, _<_}
+use Prim.Native.Nat.{ℕ, suc, _+_, _<_}
 use native.Mathlib.Omega.{arith}
+use native.Mathlib.Numerals.{add-one}
 use mathlib.Core.List.{List, [], _∷_, _++_, append-assoc, append-nil}
 use lib.Dec.{eqb}
 use lib.ListN.{length, take, length-append}
-use borrow.Author.Tests.{eqb-true}
+use borrow.Author.Tests.{eqb-true, ne-eqb}
 use Rattle.commands.specs.declared.command.Command.{Command}
 use Rattle.commands.specs.declared.command.Command.the-variants as Command
-use Rattle.commands.specs.declared.header.WindowKind.{WindowKind}
-use Rattle.commands.specs.declared.header.WindowKind.the-variants.{Code, Data, Stack}
-use Rattle.commands.specs.declared.header.Window.{Window}
+use Rattle.commands.specs.declared.command.HeaderCommand.{HeaderCommand}
 use Rattle.commands.specs.declared.header.Header.{Header}
 use Rattle.commands.specs.declared.progress.Progress.{Progress}
-use Rattle.commands.specs.Cause.{stageOf, inOrder, commandCauseOf}
+use Rattle.commands.specs.Cause.{placeOf, inOrder, commandCauseOf}
 use Rattle.commands.specs.Bytes.{widthOf}
-use Rattle.commands.specs.Progress.{initialProgress, stagedOf, namedOf, afterOf}
+use Rattle.commands.specs.Progress.{initialProgress, stagedOf, namedOf, afterOf, ended}
 use Rattle.commands.specs.inner.Sound.{Sound}
-use Rattle.commands.specs.Header.{withWindow}
+use Rattle.commands.specs.Header.{headerWith, headerCommands}
 use Rattle.ticket.proofs.Snoc.{commands-snoc}
-use Rattle.commands.proofs.Causes.{allowed}
+use Rattle.commands.specs.Rows.{headerLength}
+use Rattle.commands.proofs.HeaderLaw.{header-law}
+use Rattle.commands.proofs.Causes.{in-order, allowed}
 use Rattle.commands.proofs.Sound.{sound-start, sound-after}
 use Rattle.ticket.specs.declared.fields.Mark.{Mark}
 use Rattle.ticket.specs.declared.fields.Name.{Name}
 use Rattle.ticket.specs.declared.fields.Name.the-variants.{Absent}
 use Rattle.ticket.specs.Fields.{marksWith, inFileOrder}
-use Rattle.ticket.specs.Write.{headerCommands, markCommands}
+use Rattle.ticket.specs.Write.{markCommands}
 
--- a stage is how many of $01 to $04 there are, or 5 after the end
+-- a stage is how many commands of the header there are, or one more after the end
 abbrev pub soFar : Progress → List Mark → List Command
 soFar p ms =
     take (p .stage) (headerCommands (p .header))
-    ++ (markCommands (inFileOrder ms) ++ cond (eqb (p .stage) 5) (Command.End ∷ []) [])
+    ++ (markCommands (inFileOrder ms) ++ cond (ended p) (Command.End ∷ []) [])
 
 -- ---- what progress says of its marks, the latest first
 
@@ -56,18 +57,26 @@ empty : (ms : List Mark) → length ms ≡ 0 → ms ≡ []
 empty [] e = refl
 empty (m ∷ ms) e = absurd (omega arith)
 
-module _ (p : Progress) where
-  no-marks : (ms : List Mark) → Consistent p ms → p .stage < 4 → ms ≡ []
-  no-marks ms k h = empty ms (omega (arith, k .sound .early h))
+-- a header's commands, and one more
+one-more : (n : ℕ) (old new : List Command) (c : Command) → n < headerLength → take (suc n) new ≡ take n old ++ (c ∷ [])
+    → take (n + 1) new ++ cond (eqb (n + 1) 5) (Command.End ∷ []) []
+    ≡ (take n old ++ cond (eqb n 5) (Command.End ∷ []) []) ++ (c ∷ [])
+one-more n old new c l e =
+    rw (ne-eqb (n + 1) 5 (omega arith), ne-eqb n 5 (omega arith), append-nil, append-nil, add-one n, e)
 
-  said-window : (ms : List Mark) → Consistent p ms → (d : WindowKind) (w : Window) (n : ℕ) → p .stage ≡ stageOf d
-      → soFar (stagedOf p n (withWindow d (p .header) w)) ms ≡ soFar p ms ++ (Command.Window d w ∷ [])
-  said-window ms k Code w n e = rw (no-marks ms k (omega arith), e)
-  said-window ms k Data w n e = rw (no-marks ms k (omega arith), e)
-  said-window ms k Stack w n e = rw (no-marks ms k (omega arith), e)
+module _ (p : Progress) where
+  no-marks : (ms : List Mark) → Consistent p ms → p .stage < headerLength → ms ≡ []
+  no-marks ms k h = empty ms (omega (arith, k .sound .unmarked h, k .counted))
+
+  said-header : (ms : List Mark) → Consistent p ms → (c : HeaderCommand) (n : ℕ) → p .stage ≡ placeOf (Command.Header c)
+      → soFar (stagedOf p n (headerWith (p .header) c)) ms ≡ soFar p ms ++ (Command.Header c ∷ [])
+  said-header ms k c n e =
+      let l = header-law (p .header) c in
+      rw (no-marks ms k (omega (arith, l .early)), e) (one-more (placeOf (Command.Header c)) (headerCommands (p .header))
+      (headerCommands (headerWith (p .header) c)) (Command.Header c) (l .early) (l .stated))
 
   -- the latest mark has no name yet, and the name's address is its own
-  said-name : (ms : List Mark) → Consistent p ms → (a t n : ℕ) → p .stage ≡ 4 → p .nameable ≡ true → a ≡ p .last
+  said-name : (ms : List Mark) → Consistent p ms → (a t n : ℕ) → p .stage ≡ headerLength → p .nameable ≡ true → a ≡ p .last
       → soFar (namedOf p n) (marksWith ms (Command.Name a t)) ≡ soFar p ms ++ (Command.Name a t ∷ [])
   said-name [] k a t n e can l = absurd (omega (arith, k .sound .named can))
   said-name (m ∷ ms) k a t n e can l =
@@ -77,20 +86,15 @@ module _ (p : Progress) where
   said-step : (ms : List Mark) → Consistent p ms → (c : Command) → inOrder p c ≡ true →
       soFar (afterOf p c) (marksWith ms c) ≡ soFar p ms ++ (c ∷ [])
   unfolding afterOf
-  said-step ms k (Command.Window d w) o = said-window ms k d w (widthOf (Command.Window d w)) (eqb-true _ _ o)
-  said-step ms k (Command.Entry a l) o =
-      let e = eqb-true (p .stage) 3 o in
-      rw (no-marks ms k (omega arith), e)
+  said-step ms k (Command.Header c) o =
+      said-header ms k c (widthOf (Command.Header c)) (in-order p (Command.Header c) o .0)
   said-step ms k (Command.Mark a l) o =
-      let e = eqb-true (p .stage) 4 (and-eq-true-iff _ _ .0 o .0) in
-      simp (e, commands-snoc, append-assoc, append-nil)
+      simp (in-order p (Command.Mark a l) o .0, commands-snoc, append-assoc, append-nil)
   said-step ms k (Command.Name a t) o =
-      let b = and-eq-true-iff (eqb (p .stage) 4) _ .0 o in
-      let n = and-eq-true-iff (p .nameable) _ .0 (b .1) in
-      said-name ms k a t (widthOf (Command.Name a t)) (eqb-true _ _ (b .0)) (n .0) (eqb-true _ _ (n .1))
-  said-step ms k Command.End o =
-      let e = eqb-true (p .stage) 4 o in
-      simp (e, append-nil)
+      let i = in-order p (Command.Name a t) o in
+      let n = and-eq-true-iff (p .nameable) _ .0 (i .1) in
+      said-name ms k a t (widthOf (Command.Name a t)) (i .0) (n .0) (eqb-true _ _ (n .1))
+  said-step ms k Command.End o = simp (in-order p Command.End o .0, append-nil)
 
   pub said-next : (ms : List Mark) → Consistent p ms → (c : Command) → commandCauseOf p c ≡ 0 →
       soFar (afterOf p c) (marksWith ms c) ≡ soFar p ms ++ (c ∷ [])
@@ -118,8 +122,7 @@ module _ (p : Progress) where
   kept-step : (ms : List Mark) → Consistent p ms → (c : Command) → Sound (afterOf p c) →
       Consistent (afterOf p c) (marksWith ms c)
   unfolding afterOf
-  kept-step ms k (Command.Window d w) s = kept-staged ms k _ _ s
-  kept-step ms k (Command.Entry a l) s = kept-staged ms k _ _ s
+  kept-step ms k (Command.Header c) s = kept-staged ms k _ _ s
   kept-step ms k (Command.Mark a l) s =
       record {
         sound = s;

@@ -1,20 +1,22 @@
--- An admitted command is in order, and leaves the stage 5 only if it is the end.
+-- An admitted command is in order, and the reading has ended after it only if it is the end.
 -- Assumes nothing.
+use Prim.Native.Nat.{_+_}
 use mathlib.Core.Path.{_≡_, refl}
-use mathlib.Core.Bool.{Bool, true, false, cond, and-eq-true-iff}
+use mathlib.Core.Bool.{Bool, true, false, cond}
+use native.Mathlib.Omega.{arith}
 use lib.Dec.{eqb}
-use borrow.Author.Tests.{eqb-true}
-use Rattle.commands.specs.declared.header.WindowKind.the-variants.{Code, Data, Stack}
+use borrow.Author.Tests.{eqb-true, ne-eqb}
 use Rattle.commands.specs.declared.command.Command.{Command}
 use Rattle.commands.specs.declared.command.Command.the-variants as Command
 use Rattle.answers.specs.declared.Refusal.{Refusal}
 use Rattle.commands.specs.declared.progress.Progress.{Progress}
 use Rattle.commands.specs.declared.admit.Admitted.{Admitted}
 use Rattle.commands.specs.declared.admit.Admitted.the-variants.{Refused, Next}
-use Rattle.commands.specs.Progress.{afterOf}
+use Rattle.commands.specs.Progress.{afterOf, ended}
 use Rattle.commands.specs.Cause.{inOrder, commandCauseOf}
 use Rattle.commands.specs.Admit.{admitOf}
-use Rattle.commands.proofs.Causes.{allowed}
+use Rattle.commands.proofs.Causes.{in-order, allowed}
+use Rattle.commands.proofs.HeaderLaw.{header-law}
 
 -- what holds of every refusal, and of what a command in order leaves, holds of what the command's admission gives
 module _ (p : Progress) (c : Command) (P : Admitted → Type 0) (refuses : (r : Refusal) →
@@ -29,18 +31,15 @@ module _ (p : Progress) (c : Command) (P : Admitted → Type 0) (refuses : (r : 
 
 -- whether a command is the end
 abbrev pub ends : Command → Bool
-ends (Command.Window k w) = false
-ends (Command.Entry a l) = false
+ends (Command.Header c) = false
 ends (Command.Mark a k) = false
 ends (Command.Name a t) = false
 ends Command.End = true
 
-pub stage-after : (p : Progress) (c : Command) → inOrder p c ≡ true → eqb (afterOf p c .stage) 5 ≡ ends c
+pub stage-after : (p : Progress) (c : Command) → inOrder p c ≡ true → ended (afterOf p c) ≡ ends c
 unfolding afterOf
-stage-after p (Command.Window Code w) h = rw (eqb-true (p .stage) 0 h)
-stage-after p (Command.Window Data w) h = rw (eqb-true (p .stage) 1 h)
-stage-after p (Command.Window Stack w) h = rw (eqb-true (p .stage) 2 h)
-stage-after p (Command.Entry a l) h = rw (eqb-true (p .stage) 3 h)
-stage-after p (Command.Mark a k) h = rw (eqb-true (p .stage) 4 (and-eq-true-iff _ _ .0 h .0))
-stage-after p (Command.Name a t) h = rw (eqb-true (p .stage) 4 (and-eq-true-iff _ _ .0 h .0))
-stage-after p Command.End h = rw (eqb-true (p .stage) 4 h)
+stage-after p (Command.Header c) h =
+    ne-eqb (p .stage + 1) 5 (omega (arith, in-order p (Command.Header c) h .0, header-law (p .header) c .early))
+stage-after p (Command.Mark a k) h = rw (in-order p (Command.Mark a k) h .0)
+stage-after p (Command.Name a t) h = rw (in-order p (Command.Name a t) h .0)
+stage-after p Command.End h = rw (in-order p Command.End h .0)

@@ -4,7 +4,6 @@ use Prim.Native.Nat.{ℕ, suc}
 use mathlib.Core.Path.{_≡_}
 use mathlib.Core.Bool.{true, false}
 use mathlib.Core.List.{List, _++_}
-use lib.Dec.{eqb}
 use lib.Seq.{drop-at}
 use Rattle.commands.specs.declared.command.Command.{Command}
 use Rattle.answers.specs.declared.Refusal.{Refusal}
@@ -12,7 +11,7 @@ use Rattle.commands.specs.declared.progress.Progress.{Progress}
 use Rattle.commands.specs.declared.admit.Admitted.{Admitted}
 use Rattle.commands.specs.declared.admit.Admitted.the-variants.{Refused, Next}
 use Rattle.commands.specs.Bytes.{encodeOf, widthOf}
-use Rattle.commands.specs.Progress.{afterOf}
+use Rattle.commands.specs.Progress.{afterOf, ended}
 use Rattle.commands.specs.Cause.{inOrder}
 use Rattle.commands.specs.Admit.{admitOf}
 use Rattle.commands.specs.Fits.{Fits}
@@ -24,14 +23,14 @@ use Rattle.ticket.proofs.Stage.{by-admission}
 
 module _ (n : ℕ) (p : Progress) (ms : List Mark) (c : Command) (s : List ℕ) where
   -- by what the command's admission gives
-  turn : eqb (p .stage) 5 ≡ false → Fits c → readFrom (suc n) p ms (encodeOf c ++ s)
+  turn : ended p ≡ false → Fits c → readFrom (suc n) p ms (encodeOf c ++ s)
       ≡ readOnward (admittedAs (admitOf p c) c) ms (encodeOf c ++ s) (λ q ks t. readFrom n q ks t)
   unfolding readFrom nextCommandOf
   turn e fits = simp (e, parse-encode c s fits)
 
   -- to show that the reading answers k of the admission: k of a refusal is that refusal, and what is left is read as k
   -- says
-  pub step : eqb (p .stage) 5 ≡ false → Fits c → (k : Admitted → Outcome) →
+  pub step : ended p ≡ false → Fits c → (k : Admitted → Outcome) →
       ((r : Refusal) → refused r ≡ k (Refused r)) → (inOrder p c ≡ true →
       readFrom n (afterOf p c) (marksWith ms c) s ≡ k (Next (afterOf p c))) →
       readFrom (suc n) p ms (encodeOf c ++ s) ≡ k (admitOf p c)

@@ -7,7 +7,7 @@ use mathlib.Core.Bool.{true≢false}
 use mathlib.Core.List.{List, _++_, append-nil}
 use lib.ListN.{length}
 use lib.Seq.{append-snoc}
-use borrow.Author.Tests.{le-leb}
+use borrow.Author.Tests.{le-leb, eqb-true}
 use Rattle.commands.specs.declared.command.Command.{Command}
 use Rattle.commands.specs.declared.progress.Progress.{Progress}
 use Rattle.commands.specs.declared.admit.Admitted.the-variants.{Next}
@@ -28,32 +28,32 @@ use Rattle.ticket.proofs.Listed.{fields-ticket}
 use Rattle.ticket.proofs.SoFar.{soFar, Consistent, consistent-start, consistent-next, said-next, length-ordered}
 use Rattle.ticket.proofs.Free.{Free, free-admitted}
 use Rattle.ticket.proofs.Course.{Course, course}
-use Rattle.ticket.proofs.Course.Course.{ended, goes}
+use Rattle.ticket.proofs.Course.Course.{done, goes}
 
 encoded : {p : Progress} {ms : List Mark} {s : List ℕ} {cs : List Command} {f : Fields} → Course p ms s cs f →
     AllBytes s → encodeAll cs ≡ s
-encoded (ended e) a = refl
+encoded (done e) a = refl
 encoded (goes {s} {c} d e r) a = rw (encoded r (bytes-drop (widthOf c) a), encode-parse s c a d)
 
 fit : {p : Progress} {ms : List Mark} {s : List ℕ} {cs : List Command} {f : Fields} → Course p ms s cs f → AllBytes s →
     AllFit cs
-fit (ended e) a = none
+fit (done e) a = none
 fit (goes {s} {c} d e r) a = more (fits-parsed s c a d) (fit r (bytes-drop (widthOf c) a))
 
 free : {p : Progress} {ms : List Mark} {s : List ℕ} {cs : List Command} {f : Fields} → Course p ms s cs f → Free p cs
-free (ended e) = tt
+free (done e) = tt
 free (goes d e r) = (e, free r)
 
 said : {p : Progress} {ms : List Mark} {s : List ℕ} {cs : List Command} {f : Fields} → Course p ms s cs f →
     Consistent p ms → soFar p ms ++ cs ≡ commandsOf f
 unfolding commandsOf
-said (ended e) k = simp (e, append-nil)
+said (done {p} e) k = simp (eqb-true (p .stage) 5 e, append-nil)
 said (goes {p} {ms} {c} {cs} d e r) k =
     sym (append-snoc (soFar p ms) c cs) ∙ rw (← said-next p ms k c e) (said r (consistent-next p ms k c e))
 
 few-marks : {p : Progress} {ms : List Mark} {s : List ℕ} {cs : List Command} {f : Fields} → Course p ms s cs f →
     Consistent p ms → length (f .marks) ≤ 4096
-few-marks (ended e) k = rw length-ordered (omega (arith, k .counted, bounds (k .sound)))
+few-marks (done e) k = rw length-ordered (omega (arith, k .counted, bounds (k .sound)))
 few-marks (goes {p} {ms} {c} d e r) k = few-marks r (consistent-next p ms k c e)
 
 module _ (s : List ℕ) (f : Fields) (r : readOf s ≡ read f) where

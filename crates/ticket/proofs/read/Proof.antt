@@ -5,7 +5,10 @@ use borrow.Author.Needs.{needs}
 use Prim.Native.Nat.{_-_}
 use native.Mathlib.Omega.{arith}
 use mathlib.Core.Path.{_≡_, sym, ap, _∙_}
+use mathlib.Core.Bool.{true, false}
 use lib.ListN.{length}
+use Rattle.commands.specs.Progress.{ended}
+use Rattle.commands.proofs.Tests.{fails, passes}
 use Rattle.commands.proofs.Digits.{all-bytes}
 use Rattle.ticket.specs.declared.answer.Reading.{Reading}
 use Rattle.ticket.specs.Fields.{readingOf}
@@ -35,44 +38,51 @@ promised c r e =
 next-command-requires : tie.Need-next-command-requires Inv-loop μ-loop
 next-command-requires c κs = let h = c .before .before .loop .inv in (h .kept .sound, h .inside)
 
+-- the loop's test
+goes-on : (c : tie.Then1 Inv-loop μ-loop) → ended (c .before .before .loop .p) ≡ false
+goes-on c = fails (c .before .ended .ensures) (c .if1 .taken)
+
+stops : (c : tie.Else1 Inv-loop μ-loop) → ended (c .before .before .loop .p) ≡ true
+stops c = passes (c .before .ended .ensures) (c .if1 .left)
+
 returns : tie.Need-returns Inv-loop μ-loop
 returns c =
     let n = c .before .before .before .before in
     let e = sym (n .next-command .ensures) ∙ c .before .before .r .given .1 in
     let l = n .before .before .before in
     promised (l .before .before .before) _
-    (c .refused .ensures ∙ ap readingOf (sym (reading-refused _ _ _ (l .loop .inv) (n .before .if1 .taken) _ e)))
+    (c .refused .ensures ∙ ap readingOf (sym (reading-refused _ _ _ (l .loop .inv) (goes-on (n .before)) _ e)))
 
 array-copy-out-m : tie.Need-array-copy-out-m Inv-loop μ-loop
 array-copy-out-m c =
     let n = c .before .before .before .before in
     let e = sym (n .next-command .ensures) ∙ c .before .before .q .given .1 in
-    omega (arith, next-bounds _ _ _ (n .before .before .before .loop .inv) (n .before .if1 .taken) _ _ e)
+    omega (arith, next-bounds _ _ _ (n .before .before .before .loop .inv) (goes-on (n .before)) _ _ e)
 
 array-set-from-marks : tie.Need-array-set-from-marks Inv-loop μ-loop
 array-set-from-marks c =
     let n = c .before .before .before .before .before .before in
     let e = sym (n .next-command .ensures) ∙ c .before .before .before .before .q .given .1 in
-    omega (arith, next-bounds _ _ _ (n .before .before .before .loop .inv) (n .before .if1 .taken) _ _ e)
+    omega (arith, next-bounds _ _ _ (n .before .before .before .loop .inv) (goes-on (n .before)) _ _ e)
 
 loop-less : tie.Need-loop-less Inv-loop μ-loop
 loop-less c =
     let n = c .before .before .before .before .before .before in
     let e = sym (n .next-command .ensures) ∙ c .before .before .before .before .q .given .1 in
-    omega (arith, next-bounds _ _ _ (n .before .before .before .loop .inv) (n .before .if1 .taken) _ _ e)
+    omega (arith, next-bounds _ _ _ (n .before .before .before .loop .inv) (goes-on (n .before)) _ _ e)
 
 loop-again : tie.Need-loop-again Inv-loop μ-loop
 loop-again c =
     let n = c .before .before .before .before .before .before in
     let e = sym (n .next-command .ensures) ∙ c .before .before .before .before .q .given .1 in
     rw (c .entered .ensures, c .before .before .latest-index .ensures)
-    (reached-next _ _ _ (n .before .before .before .loop .inv) (n .before .if1 .taken) _ _ e _)
+    (reached-next _ _ _ (n .before .before .before .loop .inv) (goes-on (n .before)) _ _ e _)
 
 returns-2 : tie.Need-returns-2 Inv-loop μ-loop
 returns-2 c =
     let l = c .before .before .before .before .before .before in
     let t = c .before .before in
-    let long = reading-long _ _ _ (l .loop .inv) (t .before .before .if1 .left) (t .if2 .taken) in
+    let long = reading-long _ _ _ (l .loop .inv) (stops (t .before .before)) (t .if2 .taken) in
     promised (l .before .before .before) _
     (c .refused2 .ensures ∙ rw (c .before .refuse .ensures) (ap readingOf (sym long)))
 
@@ -80,7 +90,7 @@ returns-3 : tie.Need-returns-3 Inv-loop μ-loop
 returns-3 c =
     let l = c .before .before .before .before .before in
     promised (l .before .before .before) _
-    (reading-done _ _ _ (l .loop .inv) (c .before .before .before .if1 .left) (c .before .if2 .left))
+    (reading-done _ _ _ (l .loop .inv) (stops (c .before .before .before)) (c .before .if2 .left))
 
 pub read-spec : {M : Type 1} → statement M
 read-spec =
@@ -91,6 +101,7 @@ read-spec =
     (search needs)
     (search needs)
     (λ c. rw (c .initial .ensures, c .before .blank .ensures) (reached-start _))
+    (search needs)
     next-command-requires
     (search needs)
     (search needs)

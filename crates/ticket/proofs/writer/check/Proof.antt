@@ -12,7 +12,8 @@ use Rattle.commands.specs.Progress.{initialProgress}
 use Rattle.commands.specs.inner.Sound.{SoundSoFar, sound}
 use Rattle.commands.proofs.Sound.{sound-start}
 use Rattle.ticket.specs.Fields.{blankMark, markIndex, listed, fieldsOf}
-use Rattle.ticket.specs.Write.{headerCommands, commandsAt, markCommands, allThen}
+use Rattle.commands.specs.Header.{headerCommands}
+use Rattle.ticket.specs.Write.{commandsAt, markCommands, allThen}
 use Rattle.ticket.specs.RoundTrip.{AllFit}
 use Rattle.ticket.proofs.Fitting.{fit-listed, fit-ticket}
 use Rattle.ticket.proofs.MarkIndex.{mark-index-below}

@@ -1,51 +1,62 @@
--- `header_checked` meets its contract: the four commands, one after another. That they fit is the ranges of the types.
+-- `header_checked` meets its contract: the header's commands, one after another. The invariant of its loop: `a` is what
+-- the checks of those so far give, it is sound so far, and they fit. The measure is how many are left.
 -- Assumes nothing.
 use borrow.Author.Needs.{needs}
+use mathlib.Core.Path.{_≡_, refl}
+use Prim.Native.Nat.{_-_, _≤_}
 use native.Mathlib.Omega.{arith}
-use Rattle.commands.specs.declared.header.WindowKind.the-variants.{Code, Data, Stack}
-use Rattle.commands.specs.Every.{none, more}
-use Rattle.commands.specs.inner.Sound.{sound}
+use Rattle.commands.specs.Rows.{headerLength}
+use Rattle.commands.specs.Every.{none}
+use Rattle.commands.specs.inner.Sound.{SoundSoFar, sound}
 use Rattle.commands.proofs.Sound.{sound-start, sound-then}
-use Rattle.ticket.specs.Write.{headerCommands}
+use Rattle.ticket.specs.Write.{allThen}
 use Rattle.ticket.specs.RoundTrip.{AllFit}
-use Rattle.ticket.proofs.Fitting.{fits-window, fits-entry}
+use Rattle.ticket.proofs.HeaderParts.{commandsBefore, then-more, fit-more}
 use Rattle.ticket.proofs.writer.header_checked.Statement.{statement}
 use Rattle.ticket.proofs.writer.header_checked.Tie as tie
 
-then-requires : tie.Need-then-requires
-then-requires c κs = rw (c .initial .ensures) (sound sound-start)
+abbrev Inv-loop : tie.InvT-loop
+Inv-loop h a₀ place₀ a place =
+    SoundSoFar a × (a ≡ allThen a₀ (commandsBefore h place)) × AllFit (commandsBefore h place) × (place ≤ headerLength)
 
-then-requires-2 : tie.Need-then-requires-2
-then-requires-2 c κs = rw (c .then .ensures) (sound-then _ _ (then-requires (c .before) κs))
+abbrev μ-loop : tie.MeasureT-loop
+μ-loop h a₀ place₀ a place = headerLength - place
 
-then-requires-3 : tie.Need-then-requires-3
-then-requires-3 c κs = rw (c .then2 .ensures) (sound-then _ _ (then-requires-2 (c .before) κs))
+loop-holds : tie.Need-loop-holds Inv-loop μ-loop
+loop-holds c = (rw (c .initial .ensures) (sound sound-start), refl, none, omega arith)
 
-then-requires-4 : tie.Need-then-requires-4
-then-requires-4 c κs = rw (c .then3 .ensures) (sound-then _ _ (then-requires-3 (c .before) κs))
+loop-again : tie.Need-loop-again Inv-loop μ-loop
+loop-again c =
+    let at-loop = c .before .before .before in
+    let l = at-loop .loop in
+    let command = c .before .header-command .ensures in
+    let h = at-loop .before .before .args .h in
+    let early = c .before .before .loop-test .taken in (
+      rw (c .then .ensures) (sound-then _ _ (l .inv .0)),
+      rw (then-more h (l .place) early, ← l .inv .1, ← command .0) (c .then .ensures),
+      fit-more h (l .place) early (l .inv .2) (rw (← command .0) (command .1)),
+      omega arith,
+    )
 
--- stated of the start: `omega` reads only so many facts, and after the calls there are more
-fits : (c : tie.Start) → AllFit (headerCommands (c .args .h))
-fits c =
-    let h = c .args .h in
-    more (fits-window Code (h .code) (omega arith) (omega arith))
-    (more (fits-window Data (h .«data») (omega arith) (omega arith))
-    (more (fits-window Stack (h .stack) (omega arith) (omega arith))
-    (more (fits-entry (h .entry) (h .limit) (omega arith) (omega arith)) none)))
-
-returns : tie.Need-returns
-returns c = (
-  simp (
-    c .then4 .ensures,
-    c .before .then3 .ensures,
-    c .before .before .then2 .ensures,
-    c .before .before .before .then .ensures,
-    c .before .before .before .before .initial .ensures,
-  ),
-  fits (c .before .before .before .before .before .before .before .before .before),
-)
+returns : tie.Need-returns Inv-loop μ-loop
+returns c =
+    let l = c .before .loop in
+    let all : l .place ≡ headerLength = omega arith in
+    let e = rw all at (l .inv .1) in
+    let fits = rw all at (l .inv .2) in
+    (rw (← c .before .before .initial .ensures) e, fits)
 
 pub header-checked-spec : {M : Type 1} → statement M
 header-checked-spec =
     tie.close
-    (tie.spec (search needs) then-requires then-requires-2 then-requires-3 then-requires-4 returns)
+    (tie.spec
+    Inv-loop
+    μ-loop
+    (λ c κs. search needs)
+    loop-holds
+    (λ c κs. c .loop-test .taken)
+    (λ c κs. c .before .before .loop .inv .0)
+    (λ c. omega arith)
+    (λ c. omega arith)
+    loop-again
+    returns)

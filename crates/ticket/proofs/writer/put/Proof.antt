@@ -9,11 +9,12 @@ use lib.ListN.{length}
 use borrow.Author.Needs.{needs}
 use Rattle.commands.specs.declared.command.Command.the-variants as Command
 use Rattle.commands.specs.Bytes.{widthOf}
-use Rattle.ticket.specs.Write.{headerCommands, encodeAll}
+use Rattle.commands.specs.Header.{headerCommands}
+use Rattle.ticket.specs.Write.{encodeAll}
 use Rattle.ticket.proofs.MarkIndex.{mark-index-below}
 use Rattle.lists.proofs.Splice.{Placed, placed-none, placed-next}
 use Rattle.ticket.proofs.Placed.{placed-command}
-use Rattle.ticket.proofs.Parts.{marksBytes, marks-more, end-room, mark-room, length-header, ticket-parts}
+use Rattle.ticket.proofs.Parts.{marksBytes, marks-more, end-room, mark-room, ticket-parts}
 use Rattle.ticket.proofs.writer.put.Statement.{statement}
 use Rattle.ticket.proofs.writer.put.Tie as tie
 
@@ -93,7 +94,6 @@ returns c =
     let start = at-loop .before .before .before .before .before .before .before .before .before in
     let t = start .args .t in
     let head = at-loop .before .before .before .put-header in
-    let size = length-header (t .header) in
     let room = end-room t (l .i) (omega arith) in
     let p₁ =
     placed-next {m = head .result} (placed-none (start .args .out .now) 0) (omega arith)

@@ -1,60 +1,77 @@
--- `put_header` puts the four commands one after another.
+-- `put_header` puts the header's commands one after another. The loop's invariant: those so far are put, and the output
+-- is as long as it was. The measure is how many are left.
 -- Assumes nothing.
-use native.Mathlib.Omega.{arith}
-use mathlib.Core.List.{append-nil, append-assoc}
 use borrow.Author.Needs.{needs}
-use Rattle.commands.specs.declared.header.WindowKind.the-variants.{Code, Data, Stack}
-use Rattle.commands.specs.declared.command.Command.the-variants as Command
-use Rattle.commands.specs.Bytes.{widthOf}
-use Rattle.lists.proofs.Splice.{placed-none}
+use mathlib.Core.Path.{_≡_, refl}
+use Prim.Native.Nat.{_-_, _≤_}
+use native.Mathlib.Omega.{arith}
+use lib.ListN.{length}
+use Rattle.commands.specs.Rows.{headerLength}
+use Rattle.lists.proofs.Splice.{Placed, placed-none}
+use Rattle.ticket.specs.Write.{encodeAll}
 use Rattle.ticket.proofs.Placed.{placed-command}
+use Rattle.ticket.proofs.HeaderParts.{commandsBefore, commandAt, bytes-more, header-room}
 use Rattle.ticket.proofs.writer.put_header.Statement.{statement}
 use Rattle.ticket.proofs.writer.put_header.Tie as tie
 
-put-command-requires : tie.Need-put-command-requires
-unfolding widthOf
-put-command-requires c κs = omega arith
+abbrev Inv-loop : tie.InvT-loop
+Inv-loop h out₀ at₀ place₀ out at place =
+    Placed out₀ 0 (encodeAll (commandsBefore h place)) out at × (place ≤ headerLength) × (length out ≡ length out₀)
 
-put-command-requires-2 : tie.Need-put-command-requires-2
-unfolding widthOf
-put-command-requires-2 c κs = omega arith
+abbrev μ-loop : tie.MeasureT-loop
+μ-loop h out₀ at₀ place₀ out at place = headerLength - place
 
-put-command-requires-3 : tie.Need-put-command-requires-3
-unfolding widthOf
-put-command-requires-3 c κs = omega arith
+loop-holds : tie.Need-loop-holds Inv-loop μ-loop
+loop-holds c = (placed-none _ _, omega arith, refl)
 
-put-command-requires-4 : tie.Need-put-command-requires-4
-unfolding widthOf
-put-command-requires-4 c κs = omega arith
+put-command-requires : tie.Need-put-command-requires Inv-loop μ-loop
+put-command-requires c κs =
+    let at-loop = c .before .before .before in
+    let l = at-loop .loop in
+    let s = at-loop .before .before in
+    rw (c .before .header-command .ensures .0) (omega (
+      arith,
+      header-room (s .args .h) (l .place) (c .before .before .loop-test .taken),
+      l .inv .0 .end,
+      l .inv .2,
+    ))
 
-same-length : tie.Need-same-length
-same-length c = search needs
+loop-again : tie.Need-loop-again Inv-loop μ-loop
+loop-again c =
+    let command = c .before .before .before .before in
+    let at-loop = command .before .before in
+    let l = at-loop .loop in
+    let s = at-loop .before .before in
+    let early = command .before .loop-test .taken in
+    let room = header-room (s .args .h) (l .place) early in
+    let put = rw (command .header-command .ensures .0) at (c .before .before .put-command .ensures) in
+    let p =
+    placed-command {m = c .before .before .put-command .result} (l .inv .0) (omega (
+      arith,
+      room,
+      put .1,
+      l .inv .0 .end,
+    )) (commandAt (s .args .h) (l .place)) put in
+    (rw (bytes-more (s .args .h) (l .place) early) p, omega arith, omega arith)
 
-returns : tie.Need-returns
-unfolding widthOf
+returns : tie.Need-returns Inv-loop μ-loop
 returns c =
-    let c₃ = c .before .before .before .before in
-    let c₂ = c₃ .before .before .before .before in
-    let c₁ = c₂ .before .before .before .before in
-    let start = c₁ .before .before .before .before .before .before .before .before .before in
-    let h = start .args .h in
-    let e₁ = c₁ .before .before .put-command .ensures in
-    let e₂ = c₂ .before .before .put-command2 .ensures in
-    let e₃ = c₃ .before .before .put-command3 .ensures in
-    let e₄ = c .before .before .put-command4 .ensures in
-    let p₁ = placed-command (placed-none (start .args .out .now) 0) (omega arith) (Command.Window Code (h .code)) e₁ in
-    let p₂ = placed-command p₁ (omega arith) (Command.Window Data (h .«data»)) e₂ in
-    let p₃ = placed-command p₂ (omega arith) (Command.Window Stack (h .stack)) e₃ in
-    let p₄ = placed-command p₃ (omega arith) (Command.Entry (h .entry) (h .limit)) e₄ in
-    (simp append-nil (simp append-assoc at (p₄ .bytes)), omega arith)
+    let l = c .before .loop in
+    let all : l .place ≡ headerLength = omega arith in
+    let p = rw all at (l .inv .0) in
+    (p .bytes, omega (arith, p .end))
 
 pub put-header-spec : {M : Type 1} → statement M
 put-header-spec =
     tie.close
     (tie.spec
+    Inv-loop
+    μ-loop
+    loop-holds
+    (λ c κs. c .loop-test .taken)
     put-command-requires
-    put-command-requires-2
-    put-command-requires-3
-    put-command-requires-4
-    same-length
+    (λ c. omega arith)
+    (λ c. omega arith)
+    loop-again
+    (search needs)
     returns)
