@@ -1,20 +1,16 @@
 // A command after those before it: refused, or read, with what it leaves for the next.
 ghost use mathlib.Core.Path.{_≡_};
 ghost use Prim.Native.Nat.{_+_, _<_};
-ghost use Rattle.commands.specs.Bytes.{widthOf};
 ghost use Rattle.commands.specs.Progress.{stagedOf, markedOf, namedOf, afterOf};
 ghost use Rattle.commands.specs.inner.Sound.{Sound, SoundSoFar};
 ghost use Rattle.commands.specs.Cause.{commandCauseOf};
 ghost use Rattle.commands.specs.Admit.{admitOf, thenOf};
 use crate::cause::cause;
 use crate::command::Command;
-use crate::command::byte_of;
-use crate::command::operands_of;
+use crate::encode::width_of;
 use crate::header::Header;
 use crate::header::header_with;
 use crate::progress::Progress;
-use crate::row::row_of;
-use crate::row::width;
 use answers::Refusal;
 
 pub enum Admitted {
@@ -67,11 +63,12 @@ fn named(p: Progress, width: u32) -> Progress
     }
 }
 
-fn after(p: Progress, c: Command, width: u32) -> Progress
-    requires { ⌜ Sound p × (commandCauseOf p c ≡ 0) × (width ≡ widthOf c) ⌝ }
+fn after(p: Progress, c: Command) -> Progress
+    requires { ⌜ Sound p × (commandCauseOf p c ≡ 0) ⌝ }
     ensures { λ r. ⌜ r ≡ afterOf p c ⌝ }
 {
     let h = p.header;
+    let width = width_of(c);
     match c {
         Command::Header(s) => staged(p, width, header_with(h, s)),
         Command::Mark(a, _) => marked(p, width, a),
@@ -84,10 +81,9 @@ pub fn admit(p: Progress, c: Command) -> Admitted
     requires { ⌜ Sound p ⌝ }
     ensures { λ r. ⌜ r ≡ admitOf p c ⌝ }
 {
-    let row = row_of(byte_of(c));
-    let number = cause(p, c, row, operands_of(c));
+    let number = cause(p, c);
     if number == 0 {
-        Admitted::Next(after(p, c, width(row)))
+        Admitted::Next(after(p, c))
     } else {
         Admitted::Refused(Refusal {
             number,

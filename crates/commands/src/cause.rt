@@ -1,16 +1,14 @@
 // Document 01's causes 3 to 7, each as what must hold, and the first that does not.
 ghost use mathlib.Core.Path.{_≡_};
-ghost use mathlib.Core.Bool.{_&&_};
-ghost use lib.Dec.{eqb};
-ghost use Rattle.commands.specs.Rows.{between, printable, rowOf};
+ghost use Rattle.commands.specs.Rows.{between, printable};
 ghost use Rattle.commands.specs.Number.{digits};
-ghost use Rattle.commands.specs.Command.{commandByteOf, operandsOf, windowOf};
-ghost use Rattle.commands.specs.Cause.{follows, extentHolds, apart, apartIn, inside, commandCauseOf};
-ghost use Rattle.commands.specs.inner.Table.{codeRow, codeValues, valuesOf, FitsCode, inRangeCode};
-ghost use Rattle.commands.specs.inner.Table.{rangesHoldCode};
-ghost use Rattle.commands.specs.inner.Extent.{OperandsOfWindow, extentCauseOf};
+ghost use Rattle.commands.specs.Cause.{follows, inOrder, rangesHold, extentHolds, apart, apartIn, inside};
+ghost use Rattle.commands.specs.Cause.{commandCauseOf};
+ghost use Rattle.commands.specs.inner.Table.{inRangeCode};
+ghost use Rattle.commands.specs.inner.Extent.{extentCauseOf};
 use crate::command::Command;
-use crate::command::Operands;
+use crate::command::byte_of;
+use crate::command::operands_of;
 use crate::command::window;
 use crate::header::Header;
 use crate::header::Window;
@@ -19,7 +17,7 @@ use crate::header::past;
 use crate::progress::Progress;
 use crate::row::Extent;
 use crate::row::Operand;
-use crate::row::Row;
+use crate::row::row_of;
 
 fn follows(p: Progress, c: Command) -> bool
     ensures { λ r. ⌜ r ≡ follows p c ⌝ }
@@ -32,10 +30,10 @@ fn follows(p: Progress, c: Command) -> bool
     }
 }
 
-fn in_order(p: Progress, place: u8, c: Command) -> bool
-    ensures { λ r. ⌜ r ≡ (eqb (p .stage) place && follows p c) ⌝ }
+fn in_order(p: Progress, c: Command) -> bool
+    ensures { λ r. ⌜ r ≡ inOrder p c ⌝ }
 {
-    (p.stage == place) & follows(p, c)
+    (p.stage == row_of(byte_of(c)).place) & follows(p, c)
 }
 
 fn between(least: u64, most: u64, v: u64) -> bool
@@ -71,9 +69,11 @@ fn in_range(o: Operand, v: u64) -> bool
     }
 }
 
-fn ranges_hold(row: Row, v: Operands) -> bool
-    ensures { λ r. ⌜ r ≡ rangesHoldCode row v ⌝ }
+fn ranges_hold(c: Command) -> bool
+    ensures { λ r. ⌜ r ≡ rangesHold c ⌝ }
 {
+    let v = operands_of(c);
+    let row = row_of(byte_of(c));
     let first = row.first;
     let second = row.second;
     let third = row.third;
@@ -105,6 +105,27 @@ fn separate(h: Header, w: Window) -> bool
     apart(code, w) & (apart(data, w) & apart(stack, w))
 }
 
+// 5 or 6 of a window, or 0.
+fn extent_cause(h: Header, c: Command) -> u8
+    ensures { λ r. ⌜ r ≡ extentCauseOf h c ⌝ }
+{
+    let row = row_of(byte_of(c));
+    let extent = row.extent;
+    match extent {
+        Extent::None => 0,
+        Extent::Window(least) => {
+            let w = window(operands_of(c));
+            if !edges_hold(w, least) {
+                return 5;
+            }
+            if !separate(h, w) {
+                return 6;
+            }
+            0
+        }
+    }
+}
+
 fn inside(h: Header, c: Command) -> bool
     ensures { λ r. ⌜ r ≡ inside h c ⌝ }
 {
@@ -117,40 +138,18 @@ fn inside(h: Header, c: Command) -> bool
     }
 }
 
-// 5 or 6 of a window, or 0.
-fn extent_cause(h: Header, extent: Extent, v: Operands) -> u8
-    requires { ⌜ OperandsOfWindow extent v ⌝ }
-    ensures { λ r. ⌜ r ≡ extentCauseOf h extent (windowOf (valuesOf v)) ⌝ }
-{
-    match extent {
-        Extent::None => 0,
-        Extent::Window(least) => {
-            let w = window(v);
-            if !edges_hold(w, least) {
-                return 5;
-            }
-            if !separate(h, w) {
-                return 6;
-            }
-            0
-        }
-    }
-}
-
-// The first cause that applies to a command with its row and its operands, or 0.
-pub fn cause(p: Progress, c: Command, row: Row, v: Operands) -> u8
-    requires { ⌜ (row ≡ codeRow (rowOf (commandByteOf c))) × (v ≡ codeValues (operandsOf c)) × FitsCode row v ⌝ }
+// The first cause that applies, or 0.
+pub fn cause(p: Progress, c: Command) -> u8
     ensures { λ r. ⌜ r ≡ commandCauseOf p c ⌝ }
 {
     let h = p.header;
-    let extent = row.extent;
-    if !in_order(p, row.place, c) {
+    if !in_order(p, c) {
         return 3;
     }
-    if !ranges_hold(row, v) {
+    if !ranges_hold(c) {
         return 4;
     }
-    let number = extent_cause(h, extent, v);
+    let number = extent_cause(h, c);
     if number != 0 {
         return number;
     }

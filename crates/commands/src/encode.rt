@@ -13,6 +13,14 @@ use crate::command::operands_of;
 use crate::number::put_number;
 use crate::row::Operand;
 use crate::row::row_of;
+use crate::row::size;
+
+// How many bytes a command has.
+pub fn width_of(c: Command) -> u32
+    ensures { λ r. ⌜ r ≡ widthOf c ⌝ }
+{
+    (1 + size(row_of(byte_of(c)))) as u32
+}
 
 // Two operands at an offset of the output; the offset after them.
 fn put_pair(o: Operand, v: u64, p: Operand, w: u64, out: &mut [u8], at: usize) -> usize

@@ -1,7 +1,7 @@
 // The table of commands (document 01, "The ticket"): the place of each, and its operands with their widths and ranges,
 // by its byte.
 ghost use mathlib.Core.Path.{_≡_};
-ghost use Prim.Native.Nat.{_+_, _≤_, _<_};
+ghost use Prim.Native.Nat.{_≤_, _<_};
 ghost use lib.ListN.{length};
 ghost use Rattle.commands.specs.Rows.{rows, rowOf};
 ghost use Rattle.commands.specs.inner.Table.{codeRow, codeSize};
@@ -125,12 +125,4 @@ pub fn size(row: Row) -> usize
     let third = row.third;
     let fourth = row.fourth;
     first.width + second.width + third.width + fourth.width
-}
-
-// How many bytes a command of a row has.
-pub fn width(row: Row) -> u32
-    requires { ⌜ codeSize row ≤ 10 ⌝ }
-    ensures { λ r. ⌜ r ≡ 1 + codeSize row ⌝ }
-{
-    (1 + size(row)) as u32
 }

@@ -1,10 +1,10 @@
--- The causes that a window adds, as the code has them together. An inner matter of the code.
+-- The two causes of a window, as the code has them together. An inner matter of the code.
 -- Assumes nothing.
 use Prim.Native.Nat.{ℕ, _<_}
 use mathlib.Core.Bool.{cond}
-use Rattle.commands.specs.Cause.{extentHolds, apartIn}
-use Rattle.commands.specs.declared.header.Window.{Window}
+use Rattle.commands.specs.Cause.{edgesHold, separate}
 use Rattle.commands.specs.declared.header.Header.{Header}
+use Rattle.commands.specs.declared.command.Command.{Command}
 use Rattle.commands.specs.declared.command.Operands.{Operands}
 use Rattle.commands.specs.declared.row.Extent.{Extent}
 use Rattle.commands.specs.declared.row.Extent.the-variants as Extent
@@ -15,5 +15,5 @@ OperandsOfWindow Extent.None v = Unit
 OperandsOfWindow (Extent.Window least) v = (v .first < 65536) × (v .second < 65536)
 
 -- 5, 6, or 0
-unfoldable pub extentCauseOf : Header → Extent → Window → ℕ
-extentCauseOf h e w = cond (extentHolds e w) (cond (apartIn h e w) 0 6) 5
+unfoldable pub extentCauseOf : Header → Command → ℕ
+extentCauseOf h c = cond (edgesHold c) (cond (separate h c) 0 6) 5
