@@ -105,13 +105,34 @@ pub fn row_of(b: u8) -> Row
     ensures { λ r. ⌜ r ≡ codeRow (rowOf b) ⌝ }
 {
     match b {
-        0x00 => Row { place: HEADER, extent: Extent::None, first: ABSENT, second: ABSENT, third: ABSENT, fourth: ABSENT }, // end
-        0x01 => Row { place: 0, extent: Extent::Window(1), first: ADDRESS, second: CODE_LENGTH, third: ABSENT, fourth: ABSENT }, // code window
-        0x02 => Row { place: 1, extent: Extent::Window(0), first: ADDRESS, second: DATA_LENGTH, third: ABSENT, fourth: ABSENT }, // data window
-        0x03 => Row { place: 2, extent: Extent::Window(1), first: ADDRESS, second: STACK_LENGTH, third: ABSENT, fourth: ABSENT }, // stack window
-        0x04 => Row { place: 3, extent: Extent::None, first: ADDRESS, second: LIMIT, third: ABSENT, fourth: ABSENT }, // entry
-        0x05 => Row { place: HEADER, extent: Extent::None, first: ADDRESS, second: COST, third: STACK_BYTES, fourth: STACK_BYTES }, // mark
-        _ => Row { place: HEADER, extent: Extent::None, first: ADDRESS, second: TEXT, third: ABSENT, fourth: ABSENT }, // $06 name
+        0x00 => Row { // end
+            place: HEADER, extent: Extent::None,
+            first: ABSENT, second: ABSENT, third: ABSENT, fourth: ABSENT,
+        },
+        0x01 => Row { // code window
+            place: 0, extent: Extent::Window(1),
+            first: ADDRESS, second: CODE_LENGTH, third: ABSENT, fourth: ABSENT,
+        },
+        0x02 => Row { // data window
+            place: 1, extent: Extent::Window(0),
+            first: ADDRESS, second: DATA_LENGTH, third: ABSENT, fourth: ABSENT,
+        },
+        0x03 => Row { // stack window
+            place: 2, extent: Extent::Window(1),
+            first: ADDRESS, second: STACK_LENGTH, third: ABSENT, fourth: ABSENT,
+        },
+        0x04 => Row { // entry
+            place: 3, extent: Extent::None,
+            first: ADDRESS, second: LIMIT, third: ABSENT, fourth: ABSENT,
+        },
+        0x05 => Row { // mark
+            place: HEADER, extent: Extent::None,
+            first: ADDRESS, second: COST, third: STACK_BYTES, fourth: STACK_BYTES,
+        },
+        _ => Row { // $06 name
+            place: HEADER, extent: Extent::None,
+            first: ADDRESS, second: TEXT, third: ABSENT, fourth: ABSENT,
+        },
     }
 }
 

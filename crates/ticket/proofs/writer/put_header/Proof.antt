@@ -16,7 +16,7 @@ use Rattle.ticket.proofs.writer.put_header.Tie as tie
 
 abbrev Inv-loop : tie.InvT-loop
 Inv-loop h out₀ at₀ place₀ out at place =
-    Placed out₀ 0 (encodeAll (commandsBefore h place)) out at × (place ≤ headerLength) × (length out ≡ length out₀)
+    Placed out₀ at₀ (encodeAll (commandsBefore h place)) out at × (place ≤ headerLength) × (length out ≡ length out₀)
 
 abbrev μ-loop : tie.MeasureT-loop
 μ-loop h out₀ at₀ place₀ out at place = headerLength - place
