@@ -11,14 +11,14 @@ use Rattle.registers.specs.declared.Registers.{Registers}
 use Rattle.answers.specs.declared.Refusal.{Refusal}
 use Rattle.answers.specs.declared.Verdict.{Verdict}
 use Rattle.answers.specs.declared.Verdict.the-variants.{Accept, Refuse}
-use Rattle.verdict.specs.declared.Admission.{Admission}
-use Rattle.verdict.specs.declared.Admission.the-variants as Admission
+use Rattle.verdict.specs.declared.Certification.{Certification}
+use Rattle.verdict.specs.declared.Certification.the-variants as Certification
 use Rattle.verdict.specs.declared.Started.{Started}
 use Rattle.verdict.specs.declared.Started.the-variants.{At, Refused}
 use Rattle.monitor.specs.RegisterBytes.{unpacked}
 use Rattle.monitor.proofs.RegisterRoundTrip.{unpacked-packed}
 use Rattle.monitor.specs.Slot.{certificateIn}
-use Rattle.monitor.specs.RoutineCalls.{VerdictCall, ofVerdict, StartCall, ofStarted, CertifyCall, ofAdmission}
+use Rattle.monitor.specs.RoutineCalls.{VerdictCall, ofVerdict, StartCall, ofStarted, CertifyCall, ofCertification}
 use Rattle.monitor.proofs.SlotRoundTrip.{certificate-in-slot}
 
 -- as every refusal of the verdict and of a start is
@@ -33,9 +33,9 @@ abbrev pub NumberedStart : Started → Type 0
 NumberedStart (At q) = Unit
 NumberedStart (Refused r) = Numbered r
 
-abbrev pub NumberedAdmission : Admission → Type 0
-NumberedAdmission (Admission.Granted c) = Unit
-NumberedAdmission (Admission.Refused r) = Numbered r
+abbrev pub NumberedCertification : Certification → Type 0
+NumberedCertification (Certification.Granted c) = Unit
+NumberedCertification (Certification.Refused r) = Numbered r
 
 abbrev refusalFrom : (number place : ℕ) → Refusal
 refusalFrom n p = record { number = n; place = p }
@@ -50,12 +50,12 @@ verdictFrom j =
 abbrev startFrom : StartCall → Started
 startFrom b = cond (eqb (b .outcome) 0) (At (unpacked (b .registers))) (Refused (refusalFrom (b .outcome) (b .place)))
 
-abbrev admissionFrom : CertifyCall → Admission
-admissionFrom f =
+abbrev certificationFrom : CertifyCall → Certification
+certificationFrom f =
     cond
     (eqb (f .outcome) 0)
-    (Admission.Granted (certificateIn (f .slot)))
-    (Admission.Refused (refusalFrom (f .outcome) (f .place)))
+    (Certification.Granted (certificateIn (f .slot)))
+    (Certification.Refused (refusalFrom (f .outcome) (f .place)))
 
 module _ (e c s p : ℕ) where
   verdict-back : (v : Verdict) → NumberedVerdict v → verdictFrom (ofVerdict v e c s p) ≡ v
@@ -76,10 +76,10 @@ module _ (p : ℕ) (rs m : List ℕ) where
   starts-apart a b n o h = sym (start-back a n) ∙ ap startFrom h ∙ start-back b o
 
 module _ (p : ℕ) (slot : List ℕ) where
-  admission-back : (a : Admission) → NumberedAdmission a → admissionFrom (ofAdmission a p slot) ≡ a
-  admission-back (Admission.Granted c) n = rw (certificate-in-slot c)
-  admission-back (Admission.Refused r) n = rw (ne-eqb _ _ n)
+  certification-back : (a : Certification) → NumberedCertification a → certificationFrom (ofCertification a p slot) ≡ a
+  certification-back (Certification.Granted c) n = rw (certificate-in-slot c)
+  certification-back (Certification.Refused r) n = rw (ne-eqb _ _ n)
 
-  pub admissions-apart : (a b : Admission) → NumberedAdmission a → NumberedAdmission b
-      → ofAdmission a p slot ≡ ofAdmission b p slot → a ≡ b
-  admissions-apart a b n o h = sym (admission-back a n) ∙ ap admissionFrom h ∙ admission-back b o
+  pub certifications-apart : (a b : Certification) → NumberedCertification a → NumberedCertification b
+      → ofCertification a p slot ≡ ofCertification b p slot → a ≡ b
+  certifications-apart a b n o h = sym (certification-back a n) ∙ ap certificationFrom h ∙ certification-back b o

@@ -11,26 +11,26 @@ use lib.ListN.{length}
 use Rattle.registers.specs.Registers.{dataOf}
 use Rattle.commands.specs.Number.{AllBytes}
 use Rattle.verdict.specs.declared.Certificate.{Certificate}
-use Rattle.verdict.specs.declared.Admission.{Admission}
-use Rattle.verdict.specs.declared.Admission.the-variants.{Granted, Refused}
-use Rattle.verdict.specs.Admission.{admittedOf}
+use Rattle.verdict.specs.declared.Certification.{Certification}
+use Rattle.verdict.specs.declared.Certification.the-variants.{Granted, Refused}
+use Rattle.verdict.specs.Certification.{certificationOf}
 use Rattle.verdict.specs.Start.{loadedOf}
-use Rattle.verdict.proofs.Home.{admitted-comes-home}
-use Rattle.verdict.proofs.StartNumbered.{admission-numbered}
+use Rattle.verdict.proofs.Home.{certificate-comes-home}
+use Rattle.verdict.proofs.StartNumbered.{certification-numbered}
 use Rattle.monitor.specs.RegisterBytes.{packed, unpacked}
 use Rattle.monitor.specs.Slot.{slotOf}
-use Rattle.monitor.specs.RoutineCalls.{startCall, CertifyCall, certifyCall, ofAdmission, certifyBytesOf}
+use Rattle.monitor.specs.RoutineCalls.{startCall, CertifyCall, certifyCall, ofCertification, certifyBytesOf}
 use Rattle.monitor.specs.RoutineCalls.{startSlotOf}
 use Rattle.monitor.specs.Home.{SlotComesHome, FilledSlotComesHome, StartsFromFilledSlot}
 use Rattle.monitor.proofs.SlotRoundTrip.{slot-length, header-in-slot, certificate-in-slot}
 use Rattle.monitor.proofs.BytesHome.{packed-come-home}
 
 module _ (ticket image : List ℕ) (bytes : AllBytes ticket) where
-  -- the slot's header is the admitted one, and a start by it comes home
-  slot-comes-home : (c : Certificate) → admittedOf ticket image ≡ Granted c → SlotComesHome ticket image (slotOf c)
+  -- the slot's header is the certified one, and a start by it comes home
+  slot-comes-home : (c : Certificate) → certificationOf ticket image ≡ Granted c → SlotComesHome ticket image (slotOf c)
   unfolding startSlotOf
   slot-comes-home c e p rs m eleven whole =
-      let S = admitted-comes-home ticket image bytes c e (dataOf (unpacked rs)) m whole in
+      let S = certificate-comes-home ticket image bytes c e (dataOf (unpacked rs)) m whole in
       let after = loadedOf (c .header) image m in
       let H = packed-come-home ticket image (S .0) after (S .2) in
       let started : startSlotOf p (slotOf c) image rs m ≡ startCall 0 p (packed (S .0)) after =
@@ -41,15 +41,15 @@ module _ (ticket image : List ℕ) (bytes : AllBytes ticket) where
     abbrev Home : CertifyCall → Type 0
     Home f = f .outcome ≡ 0 → SlotComesHome ticket image (f .slot)
 
-    -- by what is admitted: 0 is no refusal's number
-    home-of : (a : Admission) → admittedOf ticket image ≡ a → Home (ofAdmission a p slot)
+    -- by the certification: 0 is no refusal's number
+    home-of : (a : Certification) → certificationOf ticket image ≡ a → Home (ofCertification a p slot)
     home-of (Granted c) e z = slot-comes-home c e
-    home-of (Refused r) e z = absurd (omega (arith, z, admission-numbered ticket image r e))
+    home-of (Refused r) e z = absurd (omega (arith, z, certification-numbered ticket image r e))
 
     -- by whether there are 24 slot bytes
-    home-sized : (sized : Bool) → Home (cond sized (ofAdmission (admittedOf ticket image) p slot)
+    home-sized : (sized : Bool) → Home (cond sized (ofCertification (certificationOf ticket image) p slot)
         (certifyCall 21 0 slot))
-    home-sized true z = home-of (admittedOf ticket image) refl z
+    home-sized true z = home-of (certificationOf ticket image) refl z
     home-sized false z = absurd (omega (arith, z))
 
 pub filled-slot-comes-home : (p : ℕ) (ticket image slot : List ℕ) → AllBytes ticket

@@ -10,11 +10,11 @@ use lib.ListN.{length}
 use Rattle.registers.specs.Registers.{dataOf}
 use Rattle.answers.specs.declared.Verdict.{Verdict}
 use Rattle.answers.specs.declared.Verdict.the-variants.{Accept, Refuse}
-use Rattle.verdict.specs.declared.Admission.{Admission}
-use Rattle.verdict.specs.declared.Admission.the-variants as Admission
+use Rattle.verdict.specs.declared.Certification.{Certification}
+use Rattle.verdict.specs.declared.Certification.the-variants as Certification
 use Rattle.verdict.specs.declared.Started.{Started}
 use Rattle.verdict.specs.declared.Started.the-variants.{At, Refused}
-use Rattle.verdict.specs.Admission.{admittedOf}
+use Rattle.verdict.specs.Certification.{certificationOf}
 use Rattle.verdict.specs.Start.{startedOf, loadedOf}
 use Rattle.verdict.specs.Routine.{startRoutineOf}
 use Rattle.monitor.specs.RegisterBytes.{packed, unpacked}
@@ -66,14 +66,14 @@ pub record CertifyCall : Type 0 where
 abbrev pub certifyCall : (outcome place : ℕ) (slot : List ℕ) → CertifyCall
 certifyCall n p bs = record { outcome = n; place = p; slot = bs }
 
-abbrev pub ofAdmission : Admission → (p : ℕ) (slot : List ℕ) → CertifyCall
-ofAdmission (Admission.Granted c) p bs = certifyCall 0 p (slotOf c)
-ofAdmission (Admission.Refused r) p bs = certifyCall (r .number) (r .place) bs
+abbrev pub ofCertification : Certification → (p : ℕ) (slot : List ℕ) → CertifyCall
+ofCertification (Certification.Granted c) p bs = certifyCall 0 p (slotOf c)
+ofCertification (Certification.Refused r) p bs = certifyCall (r .number) (r .place) bs
 
 -- 21 at 0 is checked first, of the slot; then what the verdict refuses is refused
 unfoldable pub certifyBytesOf : (place : ℕ) (ticket image slot : List ℕ) → CertifyCall
 certifyBytesOf p ticket image bs =
-    cond (eqb (length bs) 24) (ofAdmission (admittedOf ticket image) p bs) (certifyCall 21 0 bs)
+    cond (eqb (length bs) 24) (ofCertification (certificationOf ticket image) p bs) (certifyCall 21 0 bs)
 
 -- the start from a slot of any bytes. 21 at 0 is checked first, of the slot, the registers and the memory; then 9, of
 -- the image

@@ -18,9 +18,9 @@ use answers::refuse;
 use commands::header::Header;
 use commands::header::Window;
 use registers::Cycles;
-use verdict::Admission;
 use verdict::Certificate;
-use verdict::admit;
+use verdict::Certification;
+use verdict::certify;
 use verdict::start;
 
 fn window_in(slot: &[u8], at: usize) -> Window
@@ -80,12 +80,12 @@ pub fn certify_into(ticket: &[u8], image: &[u8], slot: &mut [u8]) -> RoutineRepl
     if slot.len() != 24 {
         return RoutineReply::Refused(refuse(21, 0));
     }
-    match admit(ticket, image) {
-        Admission::Granted(c) => {
+    match certify(ticket, image) {
+        Certification::Granted(c) => {
             put_slot(c, slot);
             RoutineReply::Done
         }
-        Admission::Refused(x) => RoutineReply::Refused(x),
+        Certification::Refused(x) => RoutineReply::Refused(x),
     }
 }
 

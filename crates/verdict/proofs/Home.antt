@@ -1,4 +1,5 @@
--- What is admitted comes home from every start by its header; so what a judged routine starts from, it comes home from.
+-- What is certified comes home from every start by its header; so what a judged routine starts from, it comes home
+-- from.
 -- Assumes nothing.
 use Prim.Native.Nat.{ℕ, _-_}
 use mathlib.Core.Path.{_≡_, refl, sym, ap}
@@ -22,12 +23,12 @@ use Rattle.answers.specs.declared.Verdict.the-variants.{Accept, Refuse}
 use Rattle.rules.specs.Checks.{verdictOn, verdictBy, verdictOf}
 use Rattle.rules.proofs.Sound.{accepted}
 use Rattle.rules.proofs.Demand.{comes-home}
-use Rattle.verdict.specs.declared.Admission.{Admission}
-use Rattle.verdict.specs.declared.Admission.the-variants as Admission
+use Rattle.verdict.specs.declared.Certification.{Certification}
+use Rattle.verdict.specs.declared.Certification.the-variants as Certification
 use Rattle.verdict.specs.declared.Started.the-variants.{At, Refused}
-use Rattle.verdict.specs.Admission.{admittedIf, admittedBy, admittedOf, verdictIn}
+use Rattle.verdict.specs.Certification.{certificationIf, certificationBy, certificationOf, verdictIn}
 use Rattle.verdict.specs.Routine.{AfterStart, afterStart, startRoutineBy, startRoutineOf}
-use Rattle.verdict.specs.Routine.{StartCertified, StartedComesHome, StartComesHome, AdmittedComesHome}
+use Rattle.verdict.specs.Routine.{StartCertified, StartedComesHome, StartComesHome, CertificateComesHome}
 use Rattle.verdict.proofs.Claimed.{starts-as-claimed}
 
 module _ (ticket image : List ℕ) (bytes : AllBytes ticket) where
@@ -64,44 +65,44 @@ module _ (ticket image : List ℕ) (bytes : AllBytes ticket) where
         refl,
       )
 
-  -- what is to be shown of an admission
-  abbrev Homeward : Admission → Type 0
-  Homeward (Admission.Granted c) = (d : Data) (m : List ℕ) → length m ≡ 65536 → StartComesHome ticket image c d m
-  Homeward (Admission.Refused r) = Unit
+  -- what is to be shown of a certification
+  abbrev Homeward : Certification → Type 0
+  Homeward (Certification.Granted c) = (d : Data) (m : List ℕ) → length m ≡ 65536 → StartComesHome ticket image c d m
+  Homeward (Certification.Refused r) = Unit
 
   -- by the verdict on the fields that were read
   homeward-if : (f : Fields) → readOf ticket ≡ read f → (v : Verdict) → verdictOn f image ≡ v
-      → Homeward (admittedIf v (f .header))
+      → Homeward (certificationIf v (f .header))
   homeward-if f h (Refuse x) j = tt
   homeward-if f h (Accept e c k) j = start-comes-home f h e c k j
 
   -- by what reading the ticket gives
-  homeward-by : (o : Outcome) → readOf ticket ≡ o → Homeward (admittedBy o image)
+  homeward-by : (o : Outcome) → readOf ticket ≡ o → Homeward (certificationBy o image)
   homeward-by (refused x) h = tt
   homeward-by (read f) h = homeward-if f h (verdictOn f image) refl
 
-  homeward : Homeward (admittedOf ticket image)
-  unfolding admittedOf
+  homeward : Homeward (certificationOf ticket image)
+  unfolding certificationOf
   homeward = homeward-by (readOf ticket) refl
 
-  -- an admission is the verdict, by the same cases
+  -- a certification is the verdict, by the same cases
   verdict-if : (f : Fields) → readOf ticket ≡ read f → (v : Verdict) → verdictOn f image ≡ v
-      → v ≡ verdictIn (admittedIf v (f .header))
+      → v ≡ verdictIn (certificationIf v (f .header))
   verdict-if f h (Refuse x) j = refl
   verdict-if f h (Accept e c k) j =
       let A = accepted f image (read-rules ticket f bytes h .2) e c k j in ap (λ (x : ℕ). Accept x c k) (A .1)
 
-  verdict-by : (o : Outcome) → readOf ticket ≡ o → verdictBy o image ≡ verdictIn (admittedBy o image)
+  verdict-by : (o : Outcome) → readOf ticket ≡ o → verdictBy o image ≡ verdictIn (certificationBy o image)
   verdict-by (refused x) h = refl
   verdict-by (read f) h = verdict-if f h (verdictOn f image) refl
 
-pub admitted-comes-home : (ticket image : List ℕ) → AllBytes ticket → AdmittedComesHome ticket image
-admitted-comes-home ticket image bytes c e = rw e at (homeward ticket image bytes)
+pub certificate-comes-home : (ticket image : List ℕ) → AllBytes ticket → CertificateComesHome ticket image
+certificate-comes-home ticket image bytes c e = rw e at (homeward ticket image bytes)
 
-pub verdict-admitted : (ticket image : List ℕ) → AllBytes ticket
-    → verdictOf ticket image ≡ verdictIn (admittedOf ticket image)
-unfolding verdictOf admittedOf
-verdict-admitted ticket image bytes = verdict-by ticket image bytes (readOf ticket) refl
+pub verdict-certified : (ticket image : List ℕ) → AllBytes ticket
+    → verdictOf ticket image ≡ verdictIn (certificationOf ticket image)
+unfolding verdictOf certificationOf
+verdict-certified ticket image bytes = verdict-by ticket image bytes (readOf ticket) refl
 
 not-started : (x : Refusal) (r : Registers) → Refused x ≡ At r → ⊥
 not-started x r h = let z : _≡_ {A = ℕ} 0 1 = cc in omega arith
@@ -110,20 +111,20 @@ module _ (ticket image : List ℕ) (d : Data) (m : List ℕ) where
   abbrev Home : AfterStart → Type 0
   Home b = (r : Registers) → b .answer ≡ At r → StartCertified ticket image r (b .memory)
 
-  -- by what is admitted
-  home-by : (bytes : AllBytes ticket) → length m ≡ 65536 → (a : Admission) → Homeward ticket image bytes a
+  -- by the certification
+  home-by : (bytes : AllBytes ticket) → length m ≡ 65536 → (a : Certification) → Homeward ticket image bytes a
       → Home (startRoutineBy a d image m)
-  home-by bytes size (Admission.Refused x) H r s = absurd (not-started x r s)
-  home-by bytes size (Admission.Granted c) H r s =
+  home-by bytes size (Certification.Refused x) H r s = absurd (not-started x r s)
+  home-by bytes size (Certification.Granted c) H r s =
       let S = H d m size in
       let same : S .0 ≡ r = cc in
       rw same at (S .2)
 
   -- by whether the memory has 65,536 bytes
   home-sized : (bytes : AllBytes ticket) (b : Bool) → eqb (length m) 65536 ≡ b
-      → Home (cond b (startRoutineBy (admittedOf ticket image) d image m) (afterStart (Refused (refusal 21 0)) m))
+      → Home (cond b (startRoutineBy (certificationOf ticket image) d image m) (afterStart (Refused (refusal 21 0)) m))
   home-sized bytes true e r s =
-      home-by bytes (eqb-true _ _ e) (admittedOf ticket image) (homeward ticket image bytes) r s
+      home-by bytes (eqb-true _ _ e) (certificationOf ticket image) (homeward ticket image bytes) r s
   home-sized bytes false e r s = absurd (not-started (refusal 21 0) r s)
 
 pub started-comes-home : (ticket image : List ℕ) → AllBytes ticket → (d : Data) (m : List ℕ) →

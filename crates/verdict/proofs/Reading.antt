@@ -1,4 +1,4 @@
--- What reading a ticket tells of its admission: the refusal, or the fields to judge.
+-- What reading a ticket tells of its certification: the refusal, or the fields to judge.
 -- Assumes nothing.
 use Prim.Native.Nat.{ℕ, _≤_}
 use mathlib.Core.Path.{_≡_, refl, ap, _∙_}
@@ -13,8 +13,8 @@ use Rattle.ticket.specs.Rules.{Readable, ReadByTheRules}
 use Rattle.ticket.proofs.Listed.{fields-ticket}
 use Rattle.ticket.proofs.WrittenRead.{few}
 use Rattle.rules.specs.Checks.{verdictOn}
-use Rattle.verdict.specs.declared.Admission.the-variants as Admission
-use Rattle.verdict.specs.Admission.{admittedIf, admittedOf}
+use Rattle.verdict.specs.declared.Certification.the-variants as Certification
+use Rattle.verdict.specs.Certification.{certificationIf, certificationOf}
 
 refused-as : (o : Outcome) (x : Refusal) → readingOf o .answer ≡ Refused x → o ≡ refused x
 refused-as (read f) x e = cc
@@ -25,10 +25,10 @@ read-as (read f) e = (f, refl, refl)
 read-as (refused y) e = absurd (true≢false cc)
 
 module _ (ticket : List ℕ) (r : Reading) (e : r ≡ readingOf (readOf ticket)) where
-  pub admitted-refused : (image : List ℕ) (x : Refusal) → r .answer ≡ Refused x
-      → admittedOf ticket image ≡ Admission.Refused x
-  unfolding admittedOf
-  admitted-refused image x a = rw (refused-as (readOf ticket) x (rw e at a))
+  pub certification-refused : (image : List ℕ) (x : Refusal) → r .answer ≡ Refused x
+      → certificationOf ticket image ≡ Certification.Refused x
+  unfolding certificationOf
+  certification-refused image x a = rw (refused-as (readOf ticket) x (rw e at a))
 
   module _ (a : r .answer ≡ Read) where
     fields : (f : Fields) × (readOf ticket ≡ read f) × (r .ticket ≡ ticketOf f)
@@ -37,10 +37,10 @@ module _ (ticket : List ℕ) (r : Reading) (e : r ≡ readingOf (readOf ticket))
     same-fields : fieldsOf (r .ticket) ≡ fields .0
     same-fields = ap fieldsOf (fields .2) ∙ fields-ticket (fields .0) (few ticket (fields .0) (fields .1))
 
-    pub admitted-read : (image : List ℕ)
-        → let f = fieldsOf (r .ticket) in admittedOf ticket image ≡ admittedIf (verdictOn f image) (f .header)
-    unfolding admittedOf
-    admitted-read image = rw (same-fields, fields .1)
+    pub certification-read : (image : List ℕ)
+        → let f = fieldsOf (r .ticket) in certificationOf ticket image ≡ certificationIf (verdictOn f image) (f .header)
+    unfolding certificationOf
+    certification-read image = rw (same-fields, fields .1)
 
     pub readable : ReadByTheRules ticket → Readable (fieldsOf (r .ticket)) × (r .ticket .count ≤ 4096)
     unfolding ticketOf

@@ -1,4 +1,4 @@
 pub mod Promise
 pub mod Start
-pub mod Admission
+pub mod Certification
 pub mod Routine

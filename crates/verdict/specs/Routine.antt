@@ -15,10 +15,10 @@ use Rattle.ticket.specs.Read.{refusal}
 use Rattle.rules.specs.Rules.{Certified}
 use Rattle.rules.specs.Claim.{ComesHome}
 use Rattle.verdict.specs.Start.{startedOf, loadedOf}
-use Rattle.verdict.specs.Admission.{admittedOf}
+use Rattle.verdict.specs.Certification.{certificationOf}
 use Rattle.verdict.specs.declared.Certificate.{Certificate}
-use Rattle.verdict.specs.declared.Admission.{Admission}
-use Rattle.verdict.specs.declared.Admission.the-variants as Admission
+use Rattle.verdict.specs.declared.Certification.{Certification}
+use Rattle.verdict.specs.declared.Certification.the-variants as Certification
 use Rattle.verdict.specs.declared.Started.{Started}
 use Rattle.verdict.specs.declared.Started.the-variants.{At, Refused}
 
@@ -30,15 +30,15 @@ pub record AfterStart : Type 0 where
 abbrev pub afterStart : Started → List ℕ → AfterStart
 afterStart a m = record { answer = a; memory = m }
 
-abbrev pub startRoutineBy : Admission → Data → List ℕ → List ℕ → AfterStart
-startRoutineBy (Admission.Refused r) d image m = afterStart (Refused r) m
-startRoutineBy (Admission.Granted c) d image m =
+abbrev pub startRoutineBy : Certification → Data → List ℕ → List ℕ → AfterStart
+startRoutineBy (Certification.Refused r) d image m = afterStart (Refused r) m
+startRoutineBy (Certification.Granted c) d image m =
     afterStart (startedOf (c .header) d image m) (loadedOf (c .header) image m)
 
 -- 21 is checked first; then what the verdict refuses is refused, and alters nothing
 unfoldable pub startRoutineOf : List ℕ → List ℕ → Data → List ℕ → AfterStart
 startRoutineOf ticket image d m =
-    cond (eqb (length m) 65536) (startRoutineBy (admittedOf ticket image) d image m)
+    cond (eqb (length m) 65536) (startRoutineBy (certificationOf ticket image) d image m)
     (afterStart (Refused (refusal 21 0)) m)
 
 -- from the registers and the memory that are answered, the routine comes home
@@ -63,8 +63,8 @@ StartComesHome ticket image c d m =
     × (C .cost ≡ c .cost)
     × (C .stack ≡ c .stack)
 
--- what is admitted can be started again and again without being judged: every start by its header comes home
-abbrev pub AdmittedComesHome : List ℕ → List ℕ → Type 0
-AdmittedComesHome ticket image =
-    (c : Certificate) → admittedOf ticket image ≡ Admission.Granted c
+-- what is certified can be started again and again without being judged: every start by its header comes home
+abbrev pub CertificateComesHome : List ℕ → List ℕ → Type 0
+CertificateComesHome ticket image =
+    (c : Certificate) → certificationOf ticket image ≡ Certification.Granted c
     → (d : Data) (m : List ℕ) → length m ≡ 65536 → StartComesHome ticket image c d m

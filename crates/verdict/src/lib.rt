@@ -1,11 +1,11 @@
-// The verdict on a routine, and its start. `verdict`, `admit`, `start` and `start_routine` are the interface: they take
-// any bytes, any header and any memory.
+// The verdict on a routine, and its start. `verdict`, `certify`, `start` and `start_routine` are the interface: they
+// take any bytes, any header and any memory.
 ghost use mathlib.Core.Path.{_≡_};
 ghost use Rattle.rules.specs.Checks.{verdictOf};
 ghost use Rattle.verdict.specs.Promise.{Promised};
 ghost use Rattle.verdict.specs.Start.{startedOf, loadedOf, StartsAsClaimed};
-ghost use Rattle.verdict.specs.Admission.{admittedOf};
-ghost use Rattle.verdict.specs.Routine.{afterStart, startRoutineOf, StartedComesHome, AdmittedComesHome};
+ghost use Rattle.verdict.specs.Certification.{certificationOf};
+ghost use Rattle.verdict.specs.Routine.{afterStart, startRoutineOf, StartedComesHome, CertificateComesHome};
 use crate::load::fill;
 use crate::load::last_of;
 use crate::load::put_home;
@@ -31,27 +31,27 @@ pub struct Certificate {
 }
 
 // A routine judged.
-pub enum Admission {
+pub enum Certification {
     Granted(Certificate),
     Refused(Refusal),
 }
 
-// Reads the ticket and judges the routine. What is admitted comes home from every start by its header, without being
+// Reads the ticket and judges the routine. What is certified comes home from every start by its header, without being
 // judged again.
-pub fn admit(ticket: &[u8], image: &[u8]) -> Admission
-    ensures { λ r. ⌜ (r ≡ admittedOf (now (ticket .entry)) (now (image .entry)))
-        × AdmittedComesHome (now (ticket .entry)) (now (image .entry)) ⌝ }
+pub fn certify(ticket: &[u8], image: &[u8]) -> Certification
+    ensures { λ r. ⌜ (r ≡ certificationOf (now (ticket .entry)) (now (image .entry)))
+        × CertificateComesHome (now (ticket .entry)) (now (image .entry)) ⌝ }
 {
     let reading = read(ticket);
     let answer = reading.answer;
     match answer {
-        Answer::Refused(x) => Admission::Refused(x),
+        Answer::Refused(x) => Certification::Refused(x),
         Answer::Read => {
             let t = reading.ticket;
             let header = t.header;
             match verdict_on(t, image) {
-                Verdict::Refuse(x) => Admission::Refused(x),
-                Verdict::Accept(_, cost, stack) => Admission::Granted(Certificate {
+                Verdict::Refuse(x) => Certification::Refused(x),
+                Verdict::Accept(_, cost, stack) => Certification::Granted(Certificate {
                     header,
                     cost,
                     stack,
@@ -67,9 +67,9 @@ pub fn verdict(ticket: &[u8], image: &[u8]) -> Verdict
     ensures { λ r. ⌜ (r ≡ verdictOf (now (ticket .entry)) (now (image .entry)))
         × Promised (now (ticket .entry)) (now (image .entry)) ⌝ }
 {
-    match admit(ticket, image) {
-        Admission::Refused(x) => Verdict::Refuse(x),
-        Admission::Granted(c) => {
+    match certify(ticket, image) {
+        Certification::Refused(x) => Verdict::Refuse(x),
+        Certification::Granted(c) => {
             let cost = c.cost;
             let stack = c.stack;
             Verdict::Accept(c.header.entry, cost, stack)
@@ -113,8 +113,8 @@ pub fn start_routine(ticket: &[u8], image: &[u8], d: Data, memory: &mut [u8]) ->
     if memory.len() != 65536 {
         return Started::Refused(refuse(21, 0));
     }
-    match admit(ticket, image) {
-        Admission::Refused(x) => Started::Refused(x),
-        Admission::Granted(c) => start(c.header, image, d, memory),
+    match certify(ticket, image) {
+        Certification::Refused(x) => Started::Refused(x),
+        Certification::Granted(c) => start(c.header, image, d, memory),
     }
 }

@@ -20,12 +20,12 @@ unfolding startRoutineOf
 returns c = (simp (ne-eqb _ _ (c .before .if1 .taken), c .refuse .ensures), home (c .before .before))
 
 -- where the routine is judged
-judged : (c : tie.After-admit)
+judged : (c : tie.After-certify)
     → let s = c .before .before .before .before .before .args in
-    startRoutineBy (c .admit .result) (s .d) (s .image .now) (s .memory .now)
+    startRoutineBy (c .certify .result) (s .d) (s .image .now) (s .memory .now)
     ≡ startRoutineOf (s .ticket .now) (s .image .now) (s .d) (s .memory .now)
 unfolding startRoutineOf
-judged c = rw (eq-eqb _ _ (c .before .if1 .left), c .admit .ensures .0)
+judged c = rw (eq-eqb _ _ (c .before .if1 .left), c .certify .ensures .0)
 
 returns-2 : tie.Need-returns-2
 returns-2 c =

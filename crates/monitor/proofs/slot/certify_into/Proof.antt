@@ -1,10 +1,10 @@
--- `monitor::slot::certify_into` meets its contract: by the length, and then by what is admitted.
+-- `monitor::slot::certify_into` meets its contract: by the length, and then by the certification.
 -- Assumes nothing.
 use borrow.Author.Needs.{needs}
 use borrow.Author.Tests.{eq-eqb, ne-eqb}
 use Prim.Native.Nat.{ℕ}
 use mathlib.Core.Path.{_≡_}
-use Rattle.monitor.specs.RoutineCalls.{ofAdmission, certifyBytesOf}
+use Rattle.monitor.specs.RoutineCalls.{ofCertification, certifyBytesOf}
 use Rattle.monitor.proofs.slot.certify_into.Statement.{statement}
 use Rattle.monitor.proofs.slot.certify_into.Tie as tie
 
@@ -13,11 +13,12 @@ unfolding certifyBytesOf
 returns c p = simp (ne-eqb _ _ (c .before .if1 .taken), c .refuse .ensures)
 
 -- where the routine is judged
-judged : (c : tie.After-admit) (p : ℕ)
+judged : (c : tie.After-certify) (p : ℕ)
     → let z = c .before .before .before .before .before .args in
-    ofAdmission (c .admit .result) p (z .slot .now) ≡ certifyBytesOf p (z .ticket .now) (z .image .now) (z .slot .now)
+    ofCertification (c .certify .result) p (z .slot .now)
+    ≡ certifyBytesOf p (z .ticket .now) (z .image .now) (z .slot .now)
 unfolding certifyBytesOf
-judged c p = rw (eq-eqb _ _ (c .before .if1 .left), c .admit .ensures .0)
+judged c p = rw (eq-eqb _ _ (c .before .if1 .left), c .certify .ensures .0)
 
 returns-2 : tie.Need-returns-2
 returns-2 c p =
