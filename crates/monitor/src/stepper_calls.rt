@@ -9,6 +9,7 @@ ghost use Rattle.monitor.specs.inner.Replies.{stepperReplied};
 use crate::register_bytes::pack;
 use crate::register_bytes::unpack;
 use answers::Refusal;
+use registers::Cycles;
 use registers::Registers;
 use stepper::answer::Ran;
 use stepper::answer::Stepped;
@@ -21,10 +22,17 @@ pub const BAD_LENGTH: u32 = 21;
 // Past the numbers of document 01's refusals, which go to 24.
 const SPENT: u32 = 100;
 
+// A run refused on its way: the refusal's number and place, and the cycles before it.
+pub struct StoppedRun {
+    pub number: u32,
+    pub cycles: Cycles,
+    pub place: u16,
+}
+
 // What a call answers beside the lent bytes; what it does not answer is left as it was lent.
 pub enum StepperReply {
-    Done(u32, u32), // an outcome that is no refusal, and the cycles
-    Stopped(u32, u32, u16), // a run refused on its way: number, the cycles before it, place
+    Done(u32, Cycles), // an outcome that is no refusal
+    Stopped(StoppedRun),
     Refused(u32, u16), // nothing was done: number and place
 }
 
@@ -58,7 +66,7 @@ pub fn step_on(regs: &mut [u8], mem: &mut [u8]) -> StepperReply
     }
     let r = unpack(regs);
     match stepper::step(r, mem) {
-        Stepped::Done(q, k) => reached(q, regs, StepperReply::Done(DONE, k.0)),
+        Stepped::Done(q, k) => reached(q, regs, StepperReply::Done(DONE, k)),
         Stepped::Refused(x) => StepperReply::Refused(x.number as u32, address_of(x)),
     }
 }
@@ -76,13 +84,16 @@ pub fn run_on(regs: &mut [u8], mem: &mut [u8], budget: u32) -> StepperReply
     }
     let r = unpack(regs);
     match stepper::run(r, mem, budget) {
-        Ran::Home(q, k) => reached(q, regs, StepperReply::Done(DONE, k.0)),
-        Ran::Spent(q, k) => reached(q, regs, StepperReply::Done(SPENT, k.0)),
-        Ran::Refused(q, k, x) => reached(
-            q,
-            regs,
-            StepperReply::Stopped(x.number as u32, k.0, address_of(x)),
-        ),
+        Ran::Home(q, k) => reached(q, regs, StepperReply::Done(DONE, k)),
+        Ran::Spent(q, k) => reached(q, regs, StepperReply::Done(SPENT, k)),
+        Ran::Refused(q, k, x) => {
+            let s = StoppedRun {
+                number: x.number as u32,
+                cycles: k,
+                place: address_of(x),
+            };
+            reached(q, regs, StepperReply::Stopped(s))
+        }
     }
 }
 
@@ -93,13 +104,13 @@ pub fn answer(a: StepperReply, cycles: &mut u32, place: &mut u16) -> u32
 {
     match a {
         StepperReply::Done(n, k) => {
-            *cycles = k;
+            *cycles = k.0;
             n
         }
-        StepperReply::Stopped(n, k, p) => {
-            *cycles = k;
-            *place = p;
-            n
+        StepperReply::Stopped(s) => {
+            *cycles = s.cycles.0;
+            *place = s.place;
+            s.number
         }
         StepperReply::Refused(n, p) => {
             *place = p;

@@ -10,8 +10,8 @@ use Rattle.monitor.specs.StepperCalls.{StepperCall, stepperCall}
 
 -- what a reply does not answer is as it was lent
 abbrev pub stepperReplied : StepperReply → (cycles place : ℕ) (registers memory : List ℕ) → StepperCall
-stepperReplied (Stepper.Done n k) c p rs m = stepperCall n k p rs m
-stepperReplied (Stepper.Stopped n k at) c p rs m = stepperCall n k at rs m
+stepperReplied (Stepper.Done n k) c p rs m = stepperCall n (k .0) p rs m
+stepperReplied (Stepper.Stopped s) c p rs m = stepperCall (s .number) (s .cycles .0) (s .place) rs m
 stepperReplied (Stepper.Refused n at) c p rs m = stepperCall n c at rs m
 
 abbrev pub replyNumber : RoutineReply → ℕ

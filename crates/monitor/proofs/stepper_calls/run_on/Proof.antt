@@ -47,12 +47,12 @@ returns-4 c k p =
 -- the place of a run's refusal is PC or 0
 address-of-requires : tie.Need-address-of-requires
 address-of-requires c κs =
-    let q = c .before .before .before in
+    let q = c .before .before in
     let w = q .before .before .before .before in
     let e = ap ranOf (sym (q .q3 .given .1)) ∙ w .run .ensures .0 in
     let p = subst RunPlaced (sym e) (run-placed _ _ _) in
     let g = q .q3 .given .0 in
-    let low : g .0 .pc < 65536 = omega (arith, c .before .before .known-told3 .given) in
+    let low : g .0 .pc < 65536 = omega (arith, c .before .known-told3 .given) in
     let small : g .1 .1 .0 .place < 65536 = omega (arith, p .2, low) in
     small
 
@@ -60,7 +60,7 @@ returns-5 : tie.Need-returns-5
 returns-5 c k p =
     let d = c .before .before in
     let q = d .before .before .before .before .before in
-    simp (d .reached3 .ensures .0, d .reached3 .ensures .1, d .before .address-of .ensures)
+    simp (d .reached3 .ensures .0, d .reached3 .ensures .1, d .before .before .address-of .ensures)
     (answered (q .before .before .before .before) k p (ap ranOf (sym (q .q3 .given .1))))
 
 pub run-on-spec : {M : Type 1} → statement M
