@@ -7,7 +7,7 @@ use Rattle.registers.specs.Word.{wrappingSub}
 use Rattle.registers.specs.Registers.{dataOf, accumulatorD, withFlags}
 use Rattle.registers.specs.declared.Data.{Data}
 use Rattle.registers.specs.declared.Registers.{Registers}
-use Rattle.opcodes.specs.Conditions.{holdsOf}
+use Rattle.opcodes.specs.Conditions.{testHoldsOf}
 use Rattle.opcodes.specs.declared.instruction.Action.{Action}
 use Rattle.opcodes.specs.declared.instruction.Action.the-variants.{Inherent, Unary, TstAccumulator, Binary, TstMemory}
 use Rattle.opcodes.specs.declared.instruction.Action.the-variants.{LoadWord, Addd, Subd, CompareWord, StoreByte}
@@ -87,7 +87,7 @@ entryOf Brset = entry operandByte (toTarget Branches) (λ k v sp d. branches (al
 -- BRCLR
 entryOf Brclr = entry operandByte (toTarget Branches) (λ k v sp d. branches (noneSet v k) d)
 -- BRA BRN BHI BLS BCC BHS BCS BLO BNE BEQ BVC BVS BPL BMI BGE BLT BGT BLE
-entryOf (Branch t) = entry nothing (toTarget (branchForm (t % 16))) (λ k v sp d. branches (holdsOf t (codes d)) d)
+entryOf (Branch t) = entry nothing (toTarget (branchForm (t % 16))) (λ k v sp d. branches (testHoldsOf t (codes d)) d)
 -- JMP
 entryOf Jmp = entry nothing (atOperand Jumps) stays
 -- JSR BSR

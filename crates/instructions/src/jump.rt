@@ -7,7 +7,7 @@ ghost use Rattle.opcodes.specs.declared.instruction.Action.the-variants as Acti
 ghost use Rattle.instructions.specs.Outcome.{allSet, noneSet};
 ghost use Rattle.instructions.specs.inner.Sited.{GoesTo, GoesOnBits, JumpsTo, StoresAt};
 use memory::push_word;
-use opcodes::condition::holds;
+use opcodes::condition::test_holds;
 use registers::Registers;
 use registers::word::wrapping_sub;
 
@@ -35,7 +35,7 @@ fn branch_if(taken: bool, t: u16, r: Registers) -> Registers
 pub fn branch(test: u8, t: u16, r: Registers) -> Registers
     ensures { λ q. ⌜ GoesTo (Action.Branch test) t r q ⌝ }
 {
-    branch_if(holds(test, r.flags), t, r)
+    branch_if(test_holds(test, r.flags), t, r)
 }
 
 // BRSET of the byte v.

@@ -30,10 +30,10 @@ pendingAfter returns n = n - 1
 pendingAfter plain n = n
 
 -- a return while no call is pending is the routine's own
-abbrev pub ends : Flow → ℕ → Bool
-ends calls n = false
-ends returns n = eqb n 0
-ends plain n = false
+abbrev pub ownReturn : Flow → ℕ → Bool
+ownReturn calls n = false
+ownReturn returns n = eqb n 0
+ownReturn plain n = false
 
 -- an instruction of this flow led to the registers q in k cycles
 abbrev pub onOf : Flow → Look → Registers → ℕ → Look
@@ -43,7 +43,7 @@ onOf d l q k =
       lowest = lowerOf (l .lowest) (q .sp);
       pending = pendingAfter d (l .pending);
       left = l .left - k;
-      over = ends d (l .pending);
+      over = ownReturn d (l .pending);
     }
 
 -- one that the budget does not cover, or that is refused, ends the look

@@ -2,7 +2,7 @@
 ghost use mathlib.Core.Path.{_≡_};
 ghost use Prim.Native.Nat.{_+_, _≤_, _<_};
 ghost use lib.ListN.{length};
-ghost use Rattle.measure.specs.Look.{beginOf, overOf, lowerOf, pendingAfter, ends, lookAfter, lookStep};
+ghost use Rattle.measure.specs.Look.{beginOf, overOf, lowerOf, pendingAfter, ownReturn, lookAfter, lookStep};
 ghost use Rattle.measure.specs.Look.{lookStepOf, lookOf, measuredOf};
 ghost use Rattle.measure.specs.inner.Said.{flowSaid};
 ghost use Rattle.stepper.specs.Answer.{done};
@@ -69,8 +69,8 @@ fn pending_after(d: Flow, n: u32) -> u32
 }
 
 // A return while no call is pending is the routine's own.
-fn ends(d: Flow, n: u32) -> bool
-    ensures { λ r. ⌜ r ≡ ends (flowSaid d) n ⌝ }
+fn own_return(d: Flow, n: u32) -> bool
+    ensures { λ r. ⌜ r ≡ ownReturn (flowSaid d) n ⌝ }
 {
     match d {
         Flow::Calls => false,
@@ -92,7 +92,7 @@ fn look_after(d: Flow, l: Look, q: Registers, k: Cycles) -> Look
         lowest: lower(l.lowest, q.sp),
         pending: pending_after(d, l.pending),
         left: l.left - k.0,
-        over: ends(d, l.pending),
+        over: own_return(d, l.pending),
     }
 }
 

@@ -8,7 +8,7 @@ use lib.ListN.{getD}
 use Rattle.registers.specs.Flags.{bit}
 use Rattle.lists.specs.Bit.{one}
 use Rattle.registers.specs.declared.flags.Flags.{Flags}
-use Rattle.opcodes.specs.Conditions.{Test, tests, truthWords, holdsOf}
+use Rattle.opcodes.specs.Conditions.{Test, tests, truthWords, testHoldsOf}
 use Rattle.opcodes.proofs.Every.{both-left, both-right, every, at}
 
 same : Bool → Bool → Bool
@@ -49,9 +49,10 @@ module _ (k : ℕ) (t : Test) (h : T (always k t)) where
       (of-either (λ z. either (λ v. either (agree k t n z v)))
       (of-either (λ n. either (λ z. either (λ v. either (agree k t n z v)))) h n) z) v) c
 
-pub truth : (k : ℕ) → k < 16 → (f : Flags) → holdsOf k f ≡ getD tests k (λ n z v c. false) (f .n) (f .z) (f .v) (f .c)
-unfolding holdsOf agree
+pub truth : (k : ℕ) → k < 16 → (f : Flags)
+    → testHoldsOf k f ≡ getD tests k (λ n z v c. false) (f .n) (f .z) (f .v) (f .c)
+unfolding testHoldsOf agree
 truth k h f =
     let t = getD tests k (λ n z v c. false) in
-    said (holdsOf k f) (t (f .n) (f .z) (f .v) (f .c))
+    said (testHoldsOf k f) (t (f .n) (f .z) (f .v) (f .c))
     (agreed k t (at always (λ n z v c. false) tests tested k h) (f .n) (f .z) (f .v) (f .c))

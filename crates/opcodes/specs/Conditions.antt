@@ -53,5 +53,5 @@ unfoldable pub truthWords : List ℕ
 truthWords = truthWordsOf tests
 
 -- whether a test holds: its number is the low half-byte of its opcode
-unfoldable pub holdsOf : ℕ → Flags → Bool
-holdsOf k f = bit (truthIndex f) (getD truthWords (k % 16) 0)
+unfoldable pub testHoldsOf : ℕ → Flags → Bool
+testHoldsOf k f = bit (truthIndex f) (getD truthWords (k % 16) 0)

@@ -11,7 +11,7 @@ use Rattle.ticket.specs.Fields.{Fields}
 use Rattle.commands.specs.Every.{Every, none, more}
 use Rattle.rules.specs.Marks.{claimAt}
 use Rattle.rules.specs.Claim.{topOf}
-use Rattle.rules.proofs.Memory.{Holds}
+use Rattle.rules.proofs.Memory.{HoldsWord}
 
 -- a return address with its claim, and the base of the routine that it lies in. A routine's base is SP as the routine
 -- begins
@@ -25,11 +25,11 @@ pub record Over (f : Fields) (need : ℕ) (m : List ℕ) (b : ℕ) (u : Frame) :
   pub marked : claimAt (f .marks) (u .address) ≡ some (u .claim)
   pub base : b + 2 + u .claim .depth .0 ≡ u .base
   pub room : topOf f + u .claim .need .0 ≤ b + 2 + 2 + need
-  pub holds : Holds m b (u .address)
+  pub word : HoldsWord m b (u .address)
 
 -- over the base of the routine that runs, the innermost first; home is the last
 abbrev pub Stacked : Fields → ℕ → List ℕ → ℕ → List Frame → Type 0
-Stacked f need m b [] = (b + 2 ≡ topOf f) × Holds m b 0
+Stacked f need m b [] = (b + 2 ≡ topOf f) × HoldsWord m b 0
 Stacked f need m b (u ∷ us) = Over f need m b u × Stacked f need m (u .base) us
 
 -- the cycles that are to come after the return
@@ -72,7 +72,7 @@ module _ (f : Fields) (need : ℕ) (m : List ℕ) where
           marked = h .0 .marked;
           base = up;
           room = h .0 .room;
-          holds = rw (same (b + 1) (omega arith) (omega arith), same (b + 2) (omega arith) (omega arith)) (h .0 .holds);
+          word = rw (same (b + 1) (omega arith) (omega arith), same (b + 2) (omega arith) (omega arith)) (h .0 .word);
         },
         stacked-keep n (u .base) us (λ x low high. same x (omega arith) high) (h .1),
       )

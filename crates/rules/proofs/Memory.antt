@@ -40,11 +40,11 @@ byte-applied m a (more {a = w} h hs) =
     byte-applied (set m (w .at) (w .value)) a hs ∙ getD-set-other m (w .at) a (w .value) 0 (λ e. h (sym e))
 
 -- the two bytes over b, high byte below low byte, hold v
-abbrev pub Holds : List ℕ → ℕ → ℕ → Type 0
-Holds m b v = byteAt m (b + 1) * 256 + byteAt m (b + 2) ≡ v
+abbrev pub HoldsWord : List ℕ → ℕ → ℕ → Type 0
+HoldsWord m b v = byteAt m (b + 1) * 256 + byteAt m (b + 2) ≡ v
 
 pub pushed-holds : (m : List ℕ) (s b v : ℕ) → s ≡ b + 2 → s < length m → s < 65536 →
-    Holds (applied (pushStores s v) m) b v
+    HoldsWord (applied (pushStores s v) m) b v
 unfolding byteAt withByte
 pushed-holds m s b v e h l =
     let under : wrappingSub s 1 ≡ b + 1 = omega (arith, less-is s 1 l (omega arith)) in
@@ -56,6 +56,6 @@ pushed-holds m s b v e h l =
     rw (under, e, high-is, low-is) (div-add-mod' v 256)
 
 -- RTS reads it back
-pub word-holds : (m : List ℕ) (b v : ℕ) → b + 2 < 65536 → Holds m b v → wordAt m (wrappingAdd b 1) ≡ v
+pub word-holds : (m : List ℕ) (b v : ℕ) → b + 2 < 65536 → HoldsWord m b v → wordAt m (wrappingAdd b 1) ≡ v
 unfolding wordAt
 word-holds m b v l h = rw (plus-plus, plus-is b 1 (omega arith), plus-is b 2 l) h

@@ -177,7 +177,7 @@ module _ {f : Fields} {image : List ℕ} {A : Accepted f image} {r : Registers} 
               marked = C .back-marked;
               base = omega (arith, C .back-depth, R .depth);
               room = omega (arith, C .back-need, R .room);
-              holds =
+              word =
                   pushed-holds m (r .sp) (q .sp) (c .after) e2 (omega (arith, R .whole, small, R .depth))
                   (omega (arith, small, R .depth));
             },
@@ -199,7 +199,7 @@ module _ {f : Fields} {image : List ℕ} {A : Accepted f image} {r : Registers} 
     claim = u .claim;
     whole = R .whole;
     code = R .code;
-    marked = rw (pc ∙ word-holds m (R .base) (u .address) small (S .0 .holds)) (S .0 .marked);
+    marked = rw (pc ∙ word-holds m (R .base) (u .address) small (S .0 .word)) (S .0 .marked);
     depth = omega (arith, S .0 .base);
     room = omega (arith, S .0 .room);
     stacked = S .1;

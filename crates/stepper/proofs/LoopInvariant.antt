@@ -9,7 +9,7 @@ use Rattle.stepper.specs.Answer.{refused, home, spent, refused as runRef
 use Rattle.stepper.specs.Step.{After, stepOf}
 use Rattle.stepper.specs.inner.Until.{untilFrom, nextFrom, untilOf, afterDone}
 use Rattle.stepper.proofs.Costs.{step-cost}
-use Rattle.stepper.proofs.LoopTurn.{refuses, over, steps, ended, goes-on, ends-at, passes}
+use Rattle.stepper.proofs.LoopTurn.{refuses, over, steps, ended, goes-on, ends-loop-at, passes}
 
 -- from registers r₀ and memory m₀ the loop has come to r and m, with `left` of the budget b left, and `turns` turns or
 -- more may follow
@@ -57,7 +57,7 @@ module _ {last b : ℕ} {r₀ : Registers} {m₀ : List ℕ} {left : ℕ} {r : R
 
       pub finished : q .pc ≤ last
           → untilOf last r₀ m₀ b ≡ record { answer = home q (record { 0 = b - (left - k) }); memory = m′ }
-      finished z = carried-on ∙ ended last (pred (i .turns)) b (b - (left - k)) q m′ (ends-at last (q .pc) z)
+      finished z = carried-on ∙ ended last (pred (i .turns)) b (b - (left - k)) q m′ (ends-loop-at last (q .pc) z)
 
       pub again : q .pc < 65536 → last < q .pc → CameTo last b r₀ m₀ (left - k) q m′
       again low n =

@@ -12,7 +12,7 @@ use Rattle.registers.specs.declared.Registers.{Registers}
 use Rattle.stepper.specs.Answer.{done, refused, home, spent, refused as runRefused}
 use Rattle.stepper.specs.Step.{stepOf}
 use Rattle.stepper.specs.Run.{AfterRun}
-use Rattle.stepper.specs.inner.Until.{ends, untilFrom, nextFrom, afterDone}
+use Rattle.stepper.specs.inner.Until.{endsLoop, untilFrom, nextFrom, afterDone}
 
 module _ (last n b s : ℕ) (r : Registers) (m : List ℕ) where
   pub refuses : {number place : ℕ} {m′ : List ℕ} → stepOf r m ≡ record { answer = refused number place; memory = m′ }
@@ -30,12 +30,12 @@ module _ (last n b s : ℕ) (r : Registers) (m : List ℕ) where
   unfolding nextFrom
   steps e l = simp (e, le-leb _ _ l)
 
-  pub ended : ends last (r .pc) ≡ true
+  pub ended : endsLoop last (r .pc) ≡ true
       → untilFrom last (suc n) b s r m ≡ record { answer = home r (record { 0 = s }); memory = m }
   unfolding untilFrom
   ended t = simp t
 
-  pub goes-on : ends last (r .pc) ≡ false → untilFrom last (suc n) b s r m ≡ nextFrom last n b s r m
+  pub goes-on : endsLoop last (r .pc) ≡ false → untilFrom last (suc n) b s r m ≡ nextFrom last n b s r m
   unfolding untilFrom nextFrom
   goes-on f = simp f
 
@@ -44,10 +44,10 @@ by-bound true e = refl
 by-bound false e = e
 
 -- an address at or below the bound ends the loop, and one above it does not
-pub ends-at : (last pc : ℕ) → pc ≤ last → ends last pc ≡ true
-ends-at last pc l = by-bound (leb 65535 last) (le-leb _ _ l)
+pub ends-loop-at : (last pc : ℕ) → pc ≤ last → endsLoop last pc ≡ true
+ends-loop-at last pc l = by-bound (leb 65535 last) (le-leb _ _ l)
 
-pub passes : (last pc : ℕ) → pc < 65536 → last < pc → ends last pc ≡ false
+pub passes : (last pc : ℕ) → pc < 65536 → last < pc → endsLoop last pc ≡ false
 passes last pc low l = simp (lt-leb 65535 last (omega arith), lt-leb pc last l)
 
 -- an equation of what a run leaves, as a contract has it

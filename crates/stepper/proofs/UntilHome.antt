@@ -10,19 +10,19 @@ use lib.ListN.{length}
 use borrow.Author.Tests.{eq-eqb, ne-eqb, lt-leb}
 use Rattle.registers.specs.declared.Registers.{Registers}
 use Rattle.stepper.specs.Run.{turn, runFrom, runOf}
-use Rattle.stepper.specs.inner.Until.{ends, untilFrom, untilOf}
+use Rattle.stepper.specs.inner.Until.{endsLoop, untilFrom, untilOf}
 use Rattle.stepper.proofs.LoopTurn.{goes-on}
 use Rattle.stepper.proofs.SameRest.{same-turn}
 
-ends-home : (pc : ℕ) → ends 0 pc ≡ eqb pc 0
-ends-home zero = refl
-ends-home (suc pc) = lt-leb (suc pc) 0 (omega arith) ∙ sym (ne-eqb (suc pc) 0 (λ e. omega (arith, e)))
+ends-loop-home : (pc : ℕ) → endsLoop 0 pc ≡ eqb pc 0
+ends-loop-home zero = refl
+ends-loop-home (suc pc) = lt-leb (suc pc) 0 (omega arith) ∙ sym (ne-eqb (suc pc) 0 (λ e. omega (arith, e)))
 
 until-home : (n b s : ℕ) (r : Registers) (m : List ℕ) → untilFrom 0 n b s r m ≡ runFrom n b s r m
 unfolding untilFrom runFrom
 until-home zero b s r m = refl
 until-home (suc n) b s r m =
-    ap (λ (h : Bool). turn h b s r m (λ t q m′. untilFrom 0 n b t q m′)) (ends-home (r .pc))
+    ap (λ (h : Bool). turn h b s r m (λ t q m′. untilFrom 0 n b t q m′)) (ends-loop-home (r .pc))
     ∙ same-turn b (λ t q m′. untilFrom 0 n b t q m′) (λ t q m′. runFrom n b t q m′) s r m
     (λ q k a w. until-home n b _ q _) (eqb (r .pc) 0)
 
@@ -30,4 +30,4 @@ pub begins : (r : Registers) (m : List ℕ) (b : ℕ) → length m ≡ 65536 →
 unfolding runOf
 begins r m b h n =
     simp (eq-eqb _ _ h)
-    (sym (until-home (suc b) b 0 r m) ∙ goes-on 0 b b 0 r m (ends-home (r .pc) ∙ ne-eqb _ _ n))
+    (sym (until-home (suc b) b 0 r m) ∙ goes-on 0 b b 0 r m (ends-loop-home (r .pc) ∙ ne-eqb _ _ n))

@@ -32,7 +32,7 @@ fn ticket(s: &[u8]) -> Ticket {
     read(&bytes).ticket
 }
 
-fn begun(b: u8) -> Ticket {
+fn base_ticket(b: u8) -> Ticket {
     if b == b'L' {
         return ticket(b"L Q1000 1000 00");
     }
@@ -84,7 +84,7 @@ fn mark(s: &[u8]) -> Mark {
 }
 
 fn altered(s: &[u8]) -> Ticket {
-    let t = begun(byte_at(s, 1));
+    let t = base_ticket(byte_at(s, 1));
     let header = header(s);
     let mut marks = t.marks;
     let i = word(s, 61) as usize;

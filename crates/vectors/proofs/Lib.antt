@@ -1,4 +1,4 @@
 pub mod Text
 pub mod Alike
 pub mod Stores
-pub mod Holding
+pub mod Agreeing

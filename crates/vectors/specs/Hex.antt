@@ -17,21 +17,21 @@ abbrev pub valueIn : List ℕ → ℕ → ℕ
 valueIn s i = digitOf (getD s i 0) % 16
 
 -- two digits and four, the high one first
-unfoldable pub byteIn : List ℕ → ℕ → ℕ
-byteIn s i = valueIn s i * 16 + valueIn s (i + 1)
+unfoldable pub hexByteIn : List ℕ → ℕ → ℕ
+hexByteIn s i = valueIn s i * 16 + valueIn s (i + 1)
 
-unfoldable pub wordIn : List ℕ → ℕ → ℕ
-wordIn s i = byteIn s i * 256 + byteIn s (i + 2)
+unfoldable pub hexWordIn : List ℕ → ℕ → ℕ
+hexWordIn s i = hexByteIn s i * 256 + hexByteIn s (i + 2)
 
 -- 22 digits: A B X Y SP PC flags
 unfoldable pub registersIn : List ℕ → ℕ → Registers
 registersIn s i =
     record {
-      x = wordIn s (i + 4);
-      y = wordIn s (i + 8);
-      sp = wordIn s (i + 12);
-      pc = wordIn s (i + 16);
-      a = byteIn s i;
-      b = byteIn s (i + 2);
-      flags = byteIn s (i + 20);
+      x = hexWordIn s (i + 4);
+      y = hexWordIn s (i + 8);
+      sp = hexWordIn s (i + 12);
+      pc = hexWordIn s (i + 16);
+      a = hexByteIn s i;
+      b = hexByteIn s (i + 2);
+      flags = hexByteIn s (i + 20);
     }

@@ -7,17 +7,17 @@ use mathlib.Core.Bool.{Bool, true, cond, _||_}
 use mathlib.Core.List.{List}
 use lib.Dec.{eqb, ltb}
 use lib.ListN.{length, getD}
-use Rattle.vectors.specs.Hex.{digitOf, byteIn}
+use Rattle.vectors.specs.Hex.{digitOf, hexByteIn}
 
 -- K, C, N and W; the bytes listed start at 55, and W stands after them
 abbrev pub kindIn : List ℕ → ℕ
-kindIn s = byteIn s 0
+kindIn s = hexByteIn s 0
 
 abbrev pub listedIn : List ℕ → ℕ
-listedIn s = byteIn s 52
+listedIn s = hexByteIn s 52
 
 abbrev pub writtenIn : List ℕ → ℕ
-writtenIn s = byteIn s (55 + 7 * listedIn s)
+writtenIn s = hexByteIn s (55 + 7 * listedIn s)
 
 -- whether a space is due at a place of a line that lists n bytes: after K, C, BEFORE, AFTER and N, after each byte
 -- listed, and before each byte written

@@ -4,8 +4,8 @@ ghost use mathlib.Core.Logic.{_↔_};
 ghost use mathlib.Core.Bool.{true};
 ghost use Rattle.stepper.specs.Answer.{answerOf, done};
 ghost use Rattle.vectors.specs.Line.{Shaped};
-ghost use Rattle.vectors.specs.Vector.{Holds};
-use crate::hex::byte_in;
+ghost use Rattle.vectors.specs.Vector.{StepAgrees};
+use crate::hex::hex_byte_in;
 use crate::hex::registers_in;
 use crate::loaded::expected_in;
 use crate::loaded::memory_in;
@@ -37,14 +37,14 @@ fn is_done(a: Stepped, q: Registers, k: Cycles) -> bool
     }
 }
 
-// Whether a line holds.
-pub fn holds(s: &[u8]) -> bool
+// Whether a step agrees with a line.
+pub fn step_agrees(s: &[u8]) -> bool
     requires { ⌜ Shaped (now s) ⌝ }
-    ensures { λ r. ⌜ (r ≡ true) ↔ (Holds (now (s .entry))) ⌝ }
+    ensures { λ r. ⌜ (r ≡ true) ↔ (StepAgrees (now (s .entry))) ⌝ }
 {
     let mut mem = memory_in(s);
     let a = step(registers_in(s, 6), &mut mem);
-    if !is_done(a, registers_in(s, 29), Cycles(byte_in(s, 3) as u32)) {
+    if !is_done(a, registers_in(s, 29), Cycles(hex_byte_in(s, 3) as u32)) {
         return false;
     }
     let expected = expected_in(s);

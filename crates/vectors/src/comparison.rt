@@ -1,6 +1,6 @@
 // What comes of a line: it is malformed, or a step differs from it, or agrees.
 ghost use Rattle.vectors.specs.Vector.{Compared};
-use crate::compare::holds;
+use crate::compare::step_agrees;
 use crate::line::shaped;
 
 pub enum Comparison {
@@ -15,7 +15,7 @@ pub fn compared(s: &[u8]) -> Comparison
     if !shaped(s) {
         return Comparison::Malformed;
     }
-    if holds(s) {
+    if step_agrees(s) {
         Comparison::Agrees
     } else {
         Comparison::Differs

@@ -2,7 +2,7 @@
 ghost use mathlib.Core.Path.{_≡_};
 ghost use Prim.Native.Nat.{_+_, _≤_, _<_};
 ghost use lib.ListN.{length};
-ghost use Rattle.vectors.specs.Hex.{digitOf, valueIn, byteIn, wordIn, registersIn};
+ghost use Rattle.vectors.specs.Hex.{digitOf, valueIn, hexByteIn, hexWordIn, registersIn};
 use registers::Registers;
 
 // The value of a digit; 16 where the byte is none.
@@ -31,18 +31,18 @@ fn value_in(s: &[u8], i: usize) -> u8
     digit(s[i]) % 16
 }
 
-pub fn byte_in(s: &[u8], i: usize) -> u8
+pub fn hex_byte_in(s: &[u8], i: usize) -> u8
     requires { ⌜ i + 1 < length (now s) ⌝ }
-    ensures { λ r. ⌜ r ≡ byteIn (now (s .entry)) i ⌝ }
+    ensures { λ r. ⌜ r ≡ hexByteIn (now (s .entry)) i ⌝ }
 {
     value_in(s, i) * 16 + value_in(s, i + 1)
 }
 
-pub fn word_in(s: &[u8], i: usize) -> u16
+pub fn hex_word_in(s: &[u8], i: usize) -> u16
     requires { ⌜ i + 3 < length (now s) ⌝ }
-    ensures { λ r. ⌜ r ≡ wordIn (now (s .entry)) i ⌝ }
+    ensures { λ r. ⌜ r ≡ hexWordIn (now (s .entry)) i ⌝ }
 {
-    (byte_in(s, i) as u16) * 256 + (byte_in(s, i + 2) as u16)
+    (hex_byte_in(s, i) as u16) * 256 + (hex_byte_in(s, i + 2) as u16)
 }
 
 pub fn registers_in(s: &[u8], i: usize) -> Registers
@@ -50,12 +50,12 @@ pub fn registers_in(s: &[u8], i: usize) -> Registers
     ensures { λ r. ⌜ r ≡ registersIn (now (s .entry)) i ⌝ }
 {
     Registers {
-        x: word_in(s, i + 4),
-        y: word_in(s, i + 8),
-        sp: word_in(s, i + 12),
-        pc: word_in(s, i + 16),
-        a: byte_in(s, i),
-        b: byte_in(s, i + 2),
-        flags: byte_in(s, i + 20),
+        x: hex_word_in(s, i + 4),
+        y: hex_word_in(s, i + 8),
+        sp: hex_word_in(s, i + 12),
+        pc: hex_word_in(s, i + 16),
+        a: hex_byte_in(s, i),
+        b: hex_byte_in(s, i + 2),
+        flags: hex_byte_in(s, i + 20),
     }
 }

@@ -4,8 +4,8 @@ ghost use mathlib.Core.Logic.{_↔_};
 ghost use mathlib.Core.Bool.{true};
 ghost use Prim.Native.Nat.{_≤_};
 ghost use Rattle.vectors.specs.Line.{spaceDue, isDue, AllDue, Shaped};
-use crate::hex::byte_in;
 use crate::hex::digit;
+use crate::hex::hex_byte_in;
 
 fn space_due(n: usize, i: usize) -> bool
     requires { ⌜ n ≤ 16 ⌝ }
@@ -53,10 +53,10 @@ pub fn shaped(s: &[u8]) -> bool
     if s.len() < 64 {
         return false;
     }
-    if 3 < byte_in(s, 0) {
+    if 3 < hex_byte_in(s, 0) {
         return false;
     }
-    let n = byte_in(s, 52) as usize;
+    let n = hex_byte_in(s, 52) as usize;
     if n < 1 {
         return false;
     }
@@ -66,7 +66,7 @@ pub fn shaped(s: &[u8]) -> bool
     if s.len() < 57 + 7 * n {
         return false;
     }
-    let w = byte_in(s, 55 + 7 * n) as usize;
+    let w = hex_byte_in(s, 55 + 7 * n) as usize;
     if 9 < w {
         return false;
     }

@@ -4,9 +4,9 @@ ghost use Prim.Native.Nat.{_+_, _*_, _≤_, _<_};
 ghost use lib.ListN.{length};
 ghost use Rattle.memory.specs.Memory.{applied};
 ghost use Rattle.vectors.specs.Line.{Shaped};
-ghost use Rattle.vectors.specs.Vector.{background, storesIn, memoryIn, expectedIn, placeIn};
-use crate::hex::byte_in;
-use crate::hex::word_in;
+ghost use Rattle.vectors.specs.Vector.{background, storesIn, memoryIn, expectedIn, opcodePlaceIn};
+use crate::hex::hex_byte_in;
+use crate::hex::hex_word_in;
 use memory::byte_at;
 use memory::put_byte;
 use opcodes::lookup::page_of;
@@ -28,7 +28,7 @@ fn load(mem: &mut [u8], s: &[u8], from: usize, n: usize)
     let mut i = from;
     let mut left = n;
     while 0 < left {
-        put_byte(mem, word_in(s, i), byte_in(s, i + 4));
+        put_byte(mem, hex_word_in(s, i), hex_byte_in(s, i + 4));
         i += 7;
         left -= 1;
     }
@@ -39,7 +39,7 @@ pub fn memory_in(s: &[u8]) -> [u8; 65536]
     requires { ⌜ Shaped (now s) ⌝ }
     ensures { λ r. ⌜ (r ≡ memoryIn (now (s .entry))) × (length r ≡ 65536) ⌝ }
 {
-    let n = byte_in(s, 52) as usize;
+    let n = hex_byte_in(s, 52) as usize;
     let mut mem = background();
     load(&mut mem, s, 55, n);
     mem
@@ -50,20 +50,20 @@ pub fn expected_in(s: &[u8]) -> [u8; 65536]
     requires { ⌜ Shaped (now s) ⌝ }
     ensures { λ r. ⌜ (r ≡ expectedIn (now (s .entry))) × (length r ≡ 65536) ⌝ }
 {
-    let n = byte_in(s, 52) as usize;
-    let w = byte_in(s, 55 + 7 * n) as usize;
+    let n = hex_byte_in(s, 52) as usize;
+    let w = hex_byte_in(s, 55 + 7 * n) as usize;
     let mut mem = memory_in(s);
     load(&mut mem, s, 58 + 7 * n, w);
     mem
 }
 
 // The place of the instruction at PC: its first byte, or 256 times its map and its second byte.
-pub fn place_in(s: &[u8]) -> u16
+pub fn opcode_place_in(s: &[u8]) -> u16
     requires { ⌜ Shaped (now s) ⌝ }
-    ensures { λ r. ⌜ (r ≡ placeIn (now (s .entry))) × (r < 1024) ⌝ }
+    ensures { λ r. ⌜ (r ≡ opcodePlaceIn (now (s .entry))) × (r < 1024) ⌝ }
 {
     let mem = memory_in(s);
-    let pc = word_in(s, 22);
+    let pc = hex_word_in(s, 22);
     let first = byte_at(&mem, pc);
     let page = page_of(first);
     if page == 0 {

@@ -9,8 +9,8 @@ use crate::count::Counts;
 use crate::count::counted;
 use crate::count::none;
 use crate::count::note;
-use crate::hex::byte_in;
-use crate::loaded::place_in;
+use crate::hex::hex_byte_in;
+use crate::loaded::opcode_place_in;
 use crate::report::difference;
 use output::text;
 use std::num::wrapping_add_u32;
@@ -28,18 +28,18 @@ fn line(s: &[u8], c: Counts, places: &mut [u32; 1024]) -> Counts
     match compared(s) {
         Comparison::Malformed => counted(c, 0, Comparison::Malformed),
         Comparison::Differs => {
-            note(places, place_in(s));
+            note(places, opcode_place_in(s));
             if c.differences < 10 {
                 difference(
                     wrapping_add_u32(wrapping_add_u32(c.vectors, c.malformed), 1),
                     s,
                 );
             }
-            counted(c, byte_in(s, 0), Comparison::Differs)
+            counted(c, hex_byte_in(s, 0), Comparison::Differs)
         }
         Comparison::Agrees => {
-            note(places, place_in(s));
-            counted(c, byte_in(s, 0), Comparison::Agrees)
+            note(places, opcode_place_in(s));
+            counted(c, hex_byte_in(s, 0), Comparison::Agrees)
         }
     }
 }

@@ -1,11 +1,11 @@
 // A difference by its line and place: what differs, what was expected and what step answered.
 ghost use Rattle.vectors.specs.Line.{Shaped};
 use crate::compare::same_registers;
-use crate::hex::byte_in;
+use crate::hex::hex_byte_in;
 use crate::hex::registers_in;
 use crate::loaded::expected_in;
 use crate::loaded::memory_in;
-use crate::loaded::place_in;
+use crate::loaded::opcode_place_in;
 use output::byte;
 use output::decimal;
 use output::registers;
@@ -82,11 +82,11 @@ pub fn difference(number: u32, s: &[u8])
     let mut mem = memory_in(s);
     let expected = expected_in(s);
     let q = registers_in(s, 29);
-    let cycles = byte_in(s, 3) as u32;
+    let cycles = hex_byte_in(s, 3) as u32;
     let a = step(registers_in(s, 6), &mut mem);
     text(b"line ");
     decimal(number as u64);
-    word(b", place ", place_in(s));
+    word(b", place ", opcode_place_in(s));
     text(b":");
     match a {
         Stepped::Done(p, k) => parts(p, k, q, cycles),

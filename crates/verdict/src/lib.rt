@@ -8,7 +8,7 @@ ghost use Rattle.verdict.specs.Certification.{certificationOf};
 ghost use Rattle.verdict.specs.Routine.{afterStart, startRoutineOf, StartedComesHome, CertificateComesHome};
 use crate::load::fill;
 use crate::load::last_of;
-use crate::load::put_home;
+use crate::load::store_home;
 use answers::Refusal;
 use answers::Verdict;
 use answers::refuse;
@@ -100,7 +100,7 @@ pub fn start(h: Header, image: &[u8], d: Data, memory: &mut [u8]) -> Started
     }
     let top = last_of(stack);
     fill(code.start, image, memory);
-    put_home(top, memory);
+    store_home(top, memory);
     Started::At(Registers::start(d, h.entry, top))
 }
 

@@ -31,7 +31,7 @@ pub fn fill(from: u16, image: &[u8], memory: &mut [u8])
 }
 
 // Home's two zero bytes.
-pub fn put_home(top: u16, memory: &mut [u8])
+pub fn store_home(top: u16, memory: &mut [u8])
     requires { ⌜ length (now memory) ≡ 65536 ⌝ }
     ensures { λ _. ⌜ (now (memory .exit) ≡ applied (homeStores top) (now (memory .entry)))
         × (length (now (memory .exit)) ≡ 65536) ⌝ }

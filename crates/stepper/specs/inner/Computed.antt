@@ -7,7 +7,7 @@ use Rattle.registers.specs.declared.Registers.{Registers}
 use Rattle.memory.specs.Memory.{byteAt, wordAt, withByte}
 use Rattle.opcodes.specs.Rows.{rows}
 use Rattle.opcodes.specs.Tables.{costs, actions, modes, costAt, actionAt, modeAt}
-use Rattle.opcodes.specs.Conditions.{truthWords, holdsOf}
+use Rattle.opcodes.specs.Conditions.{truthWords, testHoldsOf}
 use Rattle.opcodes.specs.Decode.{pageOf, opcodePlace, opcodeSize, operandOf, instructionOf, decodeAt}
 use Rattle.instructions.specs.Form.{addressIn, targetIn}
 use Rattle.instructions.specs.Entry.{formOf, readsOf, outcomeOf}
@@ -25,7 +25,7 @@ use Rattle.stepper.specs.Run.{runFrom, runOf, AfterRun}
 
 unfoldable pub stepNow : Registers → List ℕ → After
 unfolding wrappingAdd wrappingSub byteAt wordAt withByte rows costs actions modes costAt actionAt modeAt truthWords
-    holdsOf pageOf opcodePlace opcodeSize operandOf instructionOf decodeAt targetOf addressIn targetIn formOf add8Of
+    testHoldsOf pageOf opcodePlace opcodeSize operandOf instructionOf decodeAt targetOf addressIn targetIn formOf add8Of
     sub8Of add16Of sub16Of mulOf daaOf idivOf fdivOf addressOf operandAddress byteOperand wordOperand maskOf
     readsOf inputOf replaced inherentOf accumulatorOf withAccumulator indexRegisterOf withIndex wordRegisterOf
     toWord outcomeOf stackedOf interruptedOf resumedOf effectBy effectOf carriedOut didOf

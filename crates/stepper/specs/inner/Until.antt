@@ -17,13 +17,13 @@ abbrev pub afterDone : Registers → ℕ → List ℕ → After
 afterDone q k m = record { answer = done q (record { 0 = k }); memory = m }
 
 -- whether PC ends the loop: where the bound is the last address of all, whatever PC is
-abbrev pub ends : (last pc : ℕ) → Bool
-ends last pc = leb 65535 last || leb pc last
+abbrev pub endsLoop : (last pc : ℕ) → Bool
+endsLoop last pc = leb 65535 last || leb pc last
 
 -- at most n turns, s cycles of the budget b being spent
 unfoldable pub untilFrom : (last n b s : ℕ) → Registers → List ℕ → AfterRun
 untilFrom last zero b s r m = record { answer = spent r (record { 0 = s }); memory = m }
-untilFrom last (suc n) b s r m = turn (ends last (r .pc)) b s r m (λ t q m′. untilFrom last n b t q m′)
+untilFrom last (suc n) b s r m = turn (endsLoop last (r .pc)) b s r m (λ t q m′. untilFrom last n b t q m′)
 
 -- the next instruction, also where PC ends the loop, and then at most n turns
 unfoldable pub nextFrom : (last n b s : ℕ) → Registers → List ℕ → AfterRun

@@ -34,7 +34,7 @@ returns-3 c =
     let h = eq-eqb _ _ (e .if1 .left) in
     let l = eq-eqb _ _ (t .before .if2 .left) in (
       simp (h, l, c .start .ensures, t .last-of .ensures),
-      simp (h, l, p .put-home .ensures .0, f .fill .ensures .0, t .last-of .ensures),
+      simp (h, l, p .store-home .ensures .0, f .fill .ensures .0, t .last-of .ensures),
       starts-as-claimed _ _ _ (s .args .memory .now),
     )
 

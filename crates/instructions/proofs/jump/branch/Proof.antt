@@ -10,4 +10,4 @@ branch-spec =
     tie.close
     (tie.spec (search needs) (search needs)
     (λ c. goes (c .before .before .args .test) (c .before .before .args .t) (c .before .before .args .r) _
-    (simp (c .branch-if .ensures, c .before .holds .ensures))))
+    (simp (c .branch-if .ensures, c .before .test-holds .ensures))))

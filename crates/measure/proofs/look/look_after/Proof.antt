@@ -14,7 +14,7 @@ returns-2 : tie.Need-returns-2
 returns-2 c =
     let p = c .before .before .before .pending-after in
     simp (
-      c .ends .ensures,
+      c .own-return .ensures,
       p .ensures .0,
       c .before .before .before .before .lower .ensures,
       le-ltb _ _ (c .before .before .before .before .before .if1 .left),

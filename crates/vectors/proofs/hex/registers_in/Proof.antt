@@ -9,13 +9,13 @@ returns : tie.Need-returns
 unfolding registersIn
 returns c =
     simp (
-      c .byte-in3 .ensures,
-      c .before .byte-in2 .ensures,
-      c .before .before .byte-in .ensures,
-      c .before .before .before .word-in4 .ensures,
-      c .before .before .before .before .word-in3 .ensures,
-      c .before .before .before .before .before .word-in2 .ensures,
-      c .before .before .before .before .before .before .word-in .ensures,
+      c .hex-byte-in3 .ensures,
+      c .before .hex-byte-in2 .ensures,
+      c .before .before .hex-byte-in .ensures,
+      c .before .before .before .hex-word-in4 .ensures,
+      c .before .before .before .before .hex-word-in3 .ensures,
+      c .before .before .before .before .before .hex-word-in2 .ensures,
+      c .before .before .before .before .before .before .hex-word-in .ensures,
     )
 
 pub registers-in-spec : {M : Type 1} → statement M

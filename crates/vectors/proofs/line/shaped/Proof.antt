@@ -25,20 +25,21 @@ returns-5 c = (λ e. absurd (false≢true e), λ h. absurd (omega arith))
 returns-6 : tie.Need-returns-6
 returns-6 c =
     let w =
-    same-written _ (c .before .before .before .before .before .byte-in2 .ensures) (c .before .byte-in3 .ensures) in
+    same-written _ (c .before .before .before .before .before .hex-byte-in2 .ensures)
+    (c .before .hex-byte-in3 .ensures) in
     (λ e. absurd (false≢true e), λ h. absurd (omega (arith, w)))
 
 returns-7 : tie.Need-returns-7
 returns-7 c =
     let w =
-    same-written _ (c .before .before .before .before .before .before .byte-in2 .ensures)
-    (c .before .before .byte-in3 .ensures) in
+    same-written _ (c .before .before .before .before .before .before .hex-byte-in2 .ensures)
+    (c .before .before .hex-byte-in3 .ensures) in
     (λ e. absurd (false≢true e), λ h. absurd (omega (arith, w)))
 
 returns-8 : tie.Need-returns-8
 returns-8 c =
-    let n = c .before .before .before .before .before .before .before .byte-in2 .ensures in
-    let w = same-written _ n (c .before .before .before .byte-in3 .ensures) in (
+    let n = c .before .before .before .before .before .before .before .hex-byte-in2 .ensures in
+    let w = same-written _ n (c .before .before .before .hex-byte-in3 .ensures) in (
       λ e. record {
         kind = omega arith;
         some = omega arith;

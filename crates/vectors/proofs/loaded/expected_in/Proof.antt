@@ -9,14 +9,15 @@ use Rattle.vectors.proofs.loaded.expected_in.Tie as tie
 
 load-requires : tie.Need-load-requires
 load-requires c κs =
-    let w = same-written _ (c .before .before .before .byte-in .ensures) (c .before .before .byte-in2 .ensures) in
+    let w =
+    same-written _ (c .before .before .before .hex-byte-in .ensures) (c .before .before .hex-byte-in2 .ensures) in
     (c .before .memory-in .ensures .1, omega (arith, w))
 
 returns : tie.Need-returns
 unfolding expectedIn
 returns c =
-    let n = c .before .before .before .before .before .byte-in .ensures in
-    let w = same-written _ n (c .before .before .before .before .byte-in2 .ensures) in (
+    let n = c .before .before .before .before .before .hex-byte-in .ensures in
+    let w = same-written _ n (c .before .before .before .before .hex-byte-in2 .ensures) in (
       simp (c .before .load .ensures .0, c .before .before .before .memory-in .ensures .0, w, n),
       c .before .load .ensures .1,
     )

@@ -25,8 +25,9 @@ loop-holds c = (refl, c .before .before .pre .0, c .before .before .pre .1)
 loop-again : tie.Need-loop-again Inv-loop μ-loop
 loop-again c =
     let at-loop = c .before .before .before .before .before .before .before in
+    let at-byte = c .before .before .before in
     let put = c .before .before .put-byte .ensures in (
-      simp (put .0, c .before .before .before .byte-in .ensures, c .before .before .before .before .word-in .ensures)
+      simp (put .0, at-byte .hex-byte-in .ensures, at-byte .before .hex-word-in .ensures)
           (sym (first-store _ _ _ _ (c .before .before .before .before .before .before .loop-test .taken)) ∙
           at-loop .loop .inv .0),
       put .1,

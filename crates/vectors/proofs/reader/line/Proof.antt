@@ -9,25 +9,27 @@ use Rattle.vectors.specs.declared.comparison.Comparison.the-variants.{Ma
 use Rattle.vectors.proofs.reader.line.Statement.{statement}
 use Rattle.vectors.proofs.reader.line.Tie as tie
 
-place-in-requires : tie.Need-place-in-requires
-place-in-requires c κs = (rw (c .before .enum-told2 .given .1) at (c .before .before .before .compared .ensures)) .0
+opcode-place-in-requires : tie.Need-opcode-place-in-requires
+opcode-place-in-requires c κs =
+    (rw (c .before .enum-told2 .given .1) at (c .before .before .before .compared .ensures)) .0
 
 difference-requires : tie.Need-difference-requires
 difference-requires c κs =
     let at-told = c .before .before .before .before .before .before .before in
     (rw (at-told .enum-told2 .given .1) at (at-told .before .before .compared .ensures)) .0
 
-byte-in-requires : tie.Need-byte-in-requires
-byte-in-requires c κs =
+hex-byte-in-requires : tie.Need-hex-byte-in-requires
+hex-byte-in-requires c κs =
     let at-told = c .before .before .before .before .before in
     let shaped = (rw (at-told .enum-told2 .given .1) at (at-told .before .before .compared .ensures)) .0 in
     omega (arith, shaped .long)
 
-place-in-requires-2 : tie.Need-place-in-requires-2
-place-in-requires-2 c κs = (rw (c .before .enum-told3 .given .1) at (c .before .before .before .compared .ensures)) .0
+opcode-place-in-requires-2 : tie.Need-opcode-place-in-requires-2
+opcode-place-in-requires-2 c κs =
+    (rw (c .before .enum-told3 .given .1) at (c .before .before .before .compared .ensures)) .0
 
-byte-in-requires-2 : tie.Need-byte-in-requires-2
-byte-in-requires-2 c κs =
+hex-byte-in-requires-2 : tie.Need-hex-byte-in-requires-2
+hex-byte-in-requires-2 c κs =
     let at-told = c .before .before .before in
     let shaped = (rw (at-told .enum-told3 .given .1) at (at-told .before .before .compared .ensures)) .0 in
     omega (arith, shaped .long)
@@ -45,7 +47,7 @@ returns-2 c =
       Differs,
       rw (at-told .enum-told2 .given .1) at (at-told .before .before .compared .ensures),
       c .counted2 .ensures ∙ ap (λ (k : ℕ). countedOf (at-told .before .before .before .before .args .c) k Differs)
-          (c .before .byte-in .ensures),
+          (c .before .hex-byte-in .ensures),
     )
 
 returns-3 : tie.Need-returns-3
@@ -54,7 +56,7 @@ returns-3 c =
       Agrees,
       rw (at-told .enum-told3 .given .1) at (at-told .before .before .compared .ensures),
       c .counted3 .ensures ∙ ap (λ (k : ℕ). countedOf (at-told .before .before .before .before .args .c) k Agrees)
-          (c .before .byte-in2 .ensures),
+          (c .before .hex-byte-in2 .ensures),
     )
 
 pub line-spec : {M : Type 1} → statement M
@@ -65,17 +67,17 @@ line-spec =
     (search needs)
     (search needs)
     (search needs)
-    place-in-requires
+    opcode-place-in-requires
     (search needs)
     (search needs)
     (search needs)
     difference-requires
-    byte-in-requires
+    hex-byte-in-requires
     (search needs)
     (search needs)
-    place-in-requires-2
+    opcode-place-in-requires-2
     (search needs)
-    byte-in-requires-2
+    hex-byte-in-requires-2
     (search needs)
     returns
     returns-2

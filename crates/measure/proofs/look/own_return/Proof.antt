@@ -1,11 +1,11 @@
--- `ends` meets its contract.
+-- `own_return` meets its contract.
 -- Assumes nothing.
 use borrow.Author.Needs.{needs}
-use Rattle.measure.proofs.look.ends.Statement.{statement}
-use Rattle.measure.proofs.look.ends.Tie as tie
+use Rattle.measure.proofs.look.own_return.Statement.{statement}
+use Rattle.measure.proofs.look.own_return.Tie as tie
 
-pub ends-spec : {M : Type 1} → statement M
-ends-spec =
+pub own-return-spec : {M : Type 1} → statement M
+own-return-spec =
     tie.close
     (tie.spec (search needs) (search needs) (search needs)
     (λ c. simp (c .enum-told .given .1))

@@ -1,4 +1,4 @@
--- `place_in` meets its contract.
+-- `opcode_place_in` meets its contract.
 -- Assumes nothing.
 use mathlib.Core.Path.{_≡_, sym, _∙_}
 use native.Mathlib.Omega.{arith}
@@ -6,32 +6,32 @@ use borrow.Author.Needs.{needs}
 use borrow.Author.Tests.{ne-eqb}
 use Rattle.opcodes.specs.Decode.{pageOf, opcodePlace}
 use Rattle.vectors.specs.Hex.{registersIn}
-use Rattle.vectors.specs.Vector.{placeIn}
-use Rattle.vectors.proofs.loaded.place_in.Statement.{statement}
-use Rattle.vectors.proofs.loaded.place_in.Tie as tie
+use Rattle.vectors.specs.Vector.{opcodePlaceIn}
+use Rattle.vectors.proofs.loaded.opcode_place_in.Statement.{statement}
+use Rattle.vectors.proofs.loaded.opcode_place_in.Tie as tie
 
 returns : tie.Need-returns
-unfolding placeIn opcodePlace registersIn
+unfolding opcodePlaceIn opcodePlace registersIn
 returns c =
     let found = c .before .before .byte-at .ensures in
     let memory = c .before .before .before .before .before .memory-in .ensures .0 in
-    let pc = c .before .before .before .before .word-in .ensures in
+    let pc = c .before .before .before .before .hex-word-in .ensures in
     let page : pageOf (c .before .before .byte-at .result) ≡ 0 = sym (c .before .page-of .ensures .0) ∙ c .if1 .taken in
     (simp (← memory, ← pc, ← found, page), omega arith)
 
 returns-2 : tie.Need-returns-2
-unfolding placeIn opcodePlace registersIn
+unfolding opcodePlaceIn opcodePlace registersIn
 returns-2 c =
     let at-page = c .before .before .before .before in
     let found = at-page .before .byte-at .ensures in
     let memory = at-page .before .before .before .before .memory-in .ensures .0 in
-    let pc = at-page .before .before .before .word-in .ensures in
+    let pc = at-page .before .before .before .hex-word-in .ensures in
     let page = at-page .page-of .ensures .0 in
     let other = ne-eqb (at-page .page-of .result) 0 (c .before .before .before .if1 .left) in
     (simp (← memory, ← pc, ← found, ← page, other, c .byte-at2 .ensures, c .before .wrapping-add .ensures), omega arith)
 
-pub place-in-spec : {M : Type 1} → statement M
-place-in-spec =
+pub opcode-place-in-spec : {M : Type 1} → statement M
+opcode-place-in-spec =
     tie.close
     (tie.spec
     (λ c κs. search needs)

@@ -1,4 +1,4 @@
--- When a line holds: the step's answer and its memory are those expected.
+-- When a step agrees with a line: the step's answer and its memory are those expected.
 -- Assumes nothing.
 use mathlib.Core.Path.{_≡_, ap}
 use mathlib.Core.List.{List}
@@ -6,8 +6,8 @@ use Prim.Native.Nat.{ℕ}
 use Rattle.registers.specs.declared.Registers.{Registers}
 use Rattle.stepper.specs.Answer.{Answer, done}
 use Rattle.stepper.specs.Step.{After, stepOf}
-use Rattle.vectors.specs.Hex.{byteIn, registersIn}
-use Rattle.vectors.specs.Vector.{memoryIn, expectedIn, afterIn, Holds}
+use Rattle.vectors.specs.Hex.{hexByteIn, registersIn}
+use Rattle.vectors.specs.Vector.{memoryIn, expectedIn, afterIn, StepAgrees}
 
 abbrev made : Answer → List ℕ → After
 made a m = record { answer = a; memory = m }
@@ -21,18 +21,18 @@ module _
     (before : r ≡ registersIn s 6)
     (loaded : m ≡ memoryIn s)
     (after : q ≡ registersIn s 29)
-    (cycles : k ≡ byteIn s 3)
+    (cycles : k ≡ hexByteIn s 3)
   where
-    pub answers : Holds s → stepOf r m .answer ≡ done q (record { 0 = k })
+    pub answers : StepAgrees s → stepOf r m .answer ≡ done q (record { 0 = k })
     unfolding afterIn
     answers h = rw (before, loaded, after, cycles) (ap (λ (w : After). w .answer) h)
 
-    pub remembers : Holds s → stepOf r m .memory ≡ expectedIn s
+    pub remembers : StepAgrees s → stepOf r m .memory ≡ expectedIn s
     unfolding afterIn
     remembers h = rw (before, loaded) (ap (λ (w : After). w .memory) h)
 
-    pub holding : stepOf r m .answer ≡ done q (record { 0 = k }) → stepOf r m .memory ≡ expectedIn s → Holds s
+    pub agreeing : stepOf r m .answer ≡ done q (record { 0 = k }) → stepOf r m .memory ≡ expectedIn s → StepAgrees s
     unfolding afterIn
-    holding a b =
+    agreeing a b =
         let w : made (stepOf r m .answer) (stepOf r m .memory) ≡ made (done q (record { 0 = k })) (expectedIn s) = cc in
         rw (← before, ← loaded, ← after, ← cycles) w
