@@ -89,14 +89,14 @@ module _ (r₀ : Registers) (m₀ : List ℕ) (whole : length m₀ ≡ 65536) (b
       total before ≤ b → Along r m evs e n
       → b < total before + total evs → Stops r₀ m₀ (before ++ evs) b
   stops before a l stay u = absurd (omega arith)
-  stops before a l (then {r} {q} {m} {ws} {k} {ds} away done rest) u =
+  stops before a l (then {r} {q} {m} {ws} {k} {evs} away done rest) u =
       let ev : Event = record { flow = flowOf m (r .pc); stores = ws; cycles = k; sp = q .sp } in
       let sum : total (before ++ (ev ∷ [])) ≡ total before + k = rw (total-++ before (ev ∷ []), add-zero) refl in
       ⊎-elim (λ c. let later = stops (before ++ (ev ∷ [])) (joined a (then away done stay)) (omega (arith, sum, c)) rest
       (omega (arith, sum)) in
-      rw (append-assoc before (ev ∷ []) ds) at later)
-      (λ c. stops-here before ev ds a l away done c) (le-or-lt (total before + k) b)
+      rw (append-assoc before (ev ∷ []) evs) at later)
+      (λ c. stops-here before ev evs a l away done c) (le-or-lt (total before + k) b)
 
-pub run-stops : {r e : Registers} {m n : List ℕ} {ds : List Event} → length m ≡ 65536 → Along r m ds e n → (b : ℕ) →
-    b < total ds → Stops r m ds b
+pub run-stops : {r e : Registers} {m n : List ℕ} {evs : List Event} → length m ≡ 65536 → Along r m evs e n → (b : ℕ) →
+    b < total evs → Stops r m evs b
 run-stops {r} {m} whole a b u = stops r m whole b [] stay (omega arith) a (omega arith)

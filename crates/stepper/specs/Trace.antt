@@ -18,12 +18,12 @@ pub record Event : Type 0 where
 
 abbrev pub total : List Event → ℕ
 total [] = 0
-total (d ∷ ds) = d .cycles + total ds
+total (ev ∷ evs) = ev .cycles + total evs
 
--- `Along r m ds q n`: from the registers r and the memory m the step does the instructions ds, none of them at home,
+-- `Along r m evs q n`: from the registers r and the memory m the step does the instructions evs, none of them at home,
 -- and reaches q and n; from home there is the empty one alone
 pub data Along : Registers → List ℕ → List Event → Registers → List ℕ → Type 0 where
   stay : {r : Registers} {m : List ℕ} → Along r m [] r m
-  then : {r q e : Registers} {m n : List ℕ} {ws : List Store} {k : ℕ} {ds : List Event} → (r .pc ≡ 0 → ⊥)
-      → didOf r m ≡ did q ws k → Along q (applied ws m) ds e n
-      → Along r m (record { flow = flowOf m (r .pc); stores = ws; cycles = k; sp = q .sp } ∷ ds) e n
+  then : {r q e : Registers} {m n : List ℕ} {ws : List Store} {k : ℕ} {evs : List Event} → (r .pc ≡ 0 → ⊥)
+      → didOf r m ≡ did q ws k → Along q (applied ws m) evs e n
+      → Along r m (record { flow = flowOf m (r .pc); stores = ws; cycles = k; sp = q .sp } ∷ evs) e n
