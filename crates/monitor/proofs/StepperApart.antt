@@ -14,7 +14,7 @@ use Rattle.stepper.specs.declared.answer.Stepped.{Stepped}
 use Rattle.stepper.specs.declared.answer.Stepped.the-variants as Stepped
 use Rattle.stepper.specs.declared.answer.Ran.{Ran}
 use Rattle.stepper.specs.declared.answer.Ran.the-variants as Ran
-use Rattle.stepper.specs.Answer.{Answer, RunAnswer, answerOf, ranOf}
+use Rattle.stepper.specs.Answer.{Answer, answerOf, ranOf}
 use Rattle.stepper.specs.Step.{stepOf}
 use Rattle.stepper.specs.Run.{runOf}
 use Rattle.stepper.proofs.Refusals.{StepPlaced, step-placed, RunPlaced, run-placed}

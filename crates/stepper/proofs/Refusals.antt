@@ -1,6 +1,5 @@
 -- The numbers and places of a step's and of a run's refusals: 21 to 23, and 0 or PC, so no place passes PC.
 -- Assumes nothing.
-use mathlib.Core.Path.{_≡_, refl}
 use mathlib.Core.Bool.{Bool, true, false}
 use mathlib.Core.List.{List}
 use Prim.Native.Nat.{ℕ, zero, suc, _+_, _≤_}
