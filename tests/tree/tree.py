@@ -1,5 +1,5 @@
-"""Holds the tree to what its readers are told: which definitions are to be believed (believed.py), and lines, layers
-and paths (pages.py). On a scratch copy it shows that each kind of fault is seen.
+"""Holds the tree to what its readers are told: which definitions are to be believed (believed.py), which code is inner
+(inner.py), and lines, layers and paths (pages.py). On a scratch copy it shows that each kind of fault is seen.
 
   tests/tree/run           the test. Last line: 'N passed, M failed'; the exit status tells.
   tests/tree/run --lines   how many lines are to be believed, and how many definitions are inner.
@@ -12,6 +12,7 @@ from pathlib import Path
 
 sys.dont_write_bytecode = True
 import believed
+import inner
 import pages
 from laws import told
 
@@ -25,6 +26,10 @@ FAULTS = [
     ('a public call that asks something', 'crates/stepper/src/lib.rt',
      lambda text: text.replace('-> Stepped\n    ensures', '-> Stepped\n    requires { ⌜ r .pc ≡ 0 ⌝ }\n    ensures'),
      'lib.rt: step: a public call asks'),
+    ('an inner module that does not say so', 'crates/verdict/src/load.rt',
+     lambda text: text.replace('An inner module', 'A module'), 'load.rt: inner: no head says so, and fill asks'),
+    ('an inner crate that does not say so', 'crates/memory/src/lib.rt',
+     lambda text: text.replace('An inner crate', 'A crate'), 'memory/src/lib.rt: inner: no head says so'),
     ('a wide line', 'README.md', lambda text: text + 'x' * 121 + '\n', '121 characters'),
     ('a wide line of code', 'crates/memory/src/lib.rt', lambda text: text + '// ' + 'x' * 118 + '\n', '121 characters'),
     ('a crate under no heading', 'crates.txt', lambda text: text[text.index('lists:'):], 'under no heading'),
@@ -36,7 +41,7 @@ FAULTS = [
 
 
 def wrongs(root):
-    return list(believed.wrongs(root)) + list(pages.wrongs(root))
+    return list(believed.wrongs(root)) + list(inner.wrongs(root)) + list(pages.wrongs(root))
 
 
 def seen(root, file, change, said):

@@ -1,4 +1,5 @@
-// The parts of reading: the next command, and what it says of the marks.
+// The parts of reading: the next command, and what it says of the marks. An inner module of `read`, whose progress is
+// always sound.
 ghost use mathlib.Core.Path.{_≡_};
 ghost use Prim.Native.Nat.{_-_, _≤_};
 ghost use lib.ListN.{length, drop};

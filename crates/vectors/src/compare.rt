@@ -1,4 +1,5 @@
-// Whether a step comes to what a line says: every register, all eight flags, the cycles and all 65,536 bytes.
+// Whether a step comes to what a line says: every register, all eight flags, the cycles and all 65,536 bytes. An inner
+// module of `compared`, which has tested the line's shape.
 ghost use mathlib.Core.Path.{_≡_};
 ghost use mathlib.Core.Logic.{_↔_};
 ghost use mathlib.Core.Bool.{true};

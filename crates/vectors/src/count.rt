@@ -1,4 +1,5 @@
-// What is counted: lines by what comes of them, vectors by who confirmed them and by their place.
+// What is counted: lines by what comes of them, vectors by who confirmed them and by their place. An inner module of
+// the reader of lines.
 ghost use mathlib.Core.Path.{_≡_};
 ghost use lib.ListN.{set, getD};
 ghost use Prim.Native.Nat.{_<_};

@@ -1,4 +1,5 @@
-// Upper-case hexadecimal digits in a line, and the bytes, words and registers that they spell.
+// Upper-case hexadecimal digits in a line, and the bytes, words and registers that they spell. An inner module of those
+// that read a line: its functions require that the digits are there.
 ghost use mathlib.Core.Path.{_≡_};
 ghost use Prim.Native.Nat.{_+_, _≤_, _<_};
 ghost use lib.ListN.{length};

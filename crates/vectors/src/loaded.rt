@@ -1,4 +1,5 @@
-// What a line says of memory, and the place of its instruction in the opcode maps.
+// What a line says of memory, and the place of its instruction in the opcode maps. An inner module of those that
+// compare and count lines, whose shape is tested before.
 ghost use mathlib.Core.Path.{_≡_};
 ghost use Prim.Native.Nat.{_+_, _*_, _≤_, _<_};
 ghost use lib.ListN.{length};

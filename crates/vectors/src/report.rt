@@ -1,4 +1,5 @@
-// A difference by its line and place: what differs, what was expected and what step answered.
+// A difference by its line and place: what differs, what was expected and what step answered. An inner module of the
+// reader of lines, which has compared the line.
 ghost use Rattle.vectors.specs.Line.{Shaped};
 use crate::compare::same_registers;
 use crate::hex::hex_byte_in;

@@ -1,4 +1,4 @@
-// The memory of the start.
+// The memory of the start. An inner module of `start`, which has tested the memory's length.
 ghost use mathlib.Core.Path.{_≡_};
 ghost use lib.ListN.{length};
 ghost use Rattle.memory.specs.Memory.{applied};
