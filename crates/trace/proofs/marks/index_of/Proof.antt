@@ -18,6 +18,10 @@ loop-holds c =
     let s =
     c .before .before in (search needs, sym (length-map (s .args .t .marks) _) ∙ s .good .0 .1 .1 .1 .1 .0 .1 .0 .1)
 
+-- the index that is answered is a mark's of this address
+returns-2 : tie.Need-returns-2 Inv-loop μ-loop
+returns-2 c = search needs
+
 pub index-of-spec : {M : Type 1} → statement M
 index-of-spec =
     tie.close
@@ -29,7 +33,7 @@ index-of-spec =
     (λ c. search needs)
     (λ c. search needs)
     (λ c. search needs)
-    (λ c. search needs)
+    returns-2
     (λ c. search needs)
     (λ c. search needs)
     (λ c. search needs)
