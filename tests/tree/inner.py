@@ -15,8 +15,10 @@ def head(path):
 def wrongs(root):
     """Each file with public functions that have a `requires`, with whether it is said to be inner."""
     for path in sorted(root.glob('crates/*/src/**/*.rt')):
-        asking = [name for name, contract in FUNCTION.findall(path.read_text()) if re.search(r'\brequires \{', contract)]
+        functions = FUNCTION.findall(path.read_text())
+        asking = [name for name, contract in functions if re.search(r'\brequires \{', contract)]
         if asking:
-            crate = root / 'crates' / path.relative_to(root / 'crates').parts[0]
-            inner = re.search(r'\binner\b', head(path) + head(crate / 'src/lib.rt'))
-            yield f'{path.relative_to(root)}: inner', None if inner else f'no head says so, and {asking[0]} asks something'
+            name = path.relative_to(root)
+            library = root / 'crates' / name.parts[1] / 'src/lib.rt'
+            inner = re.search(r'\binner\b', head(path) + head(library))
+            yield f'{name}: inner', None if inner else f'no head says so, and {asking[0]} asks something'
