@@ -2,9 +2,9 @@
 tree to it: the former stand in crates/*/specs, the latter in crates/*/specs/inner.
 
 A definition is to be believed where the contract of a public call leads to it. The public calls are the public
-functions of the crates of INTERFACE, at their root or in a public module; none may have a `requires`. The statements
-of the laws of docs/ASSURANCE.md lead to definitions too: these may stand at either place. Of the crates of OUTSIDE
-nothing is asked.
+functions of the crates of INTERFACE, at their root or in a public module; none may have a `requires`. The contract
+that says what the checking program prints, in LINE, leads to definitions as theirs do. The statements of the laws of
+docs/ASSURANCE.md lead to definitions too: these may stand at either place. Of the crates of OUTSIDE nothing is asked.
 """
 import re
 import sys
@@ -15,6 +15,8 @@ from laws import PAGE, table
 from words import ATOM, USE, Declaration, Project, imported
 
 INTERFACE = ['stepper', 'ticket', 'verdict', 'monitor']
+# the line of the checking program is document 01's
+LINE = 'text/src/verdict.rt'
 # the desk stepper's crates and the vectors: no demand speaks of them
 OUTSIDE = ['text', 'measure', 'arguments', 'vectors']
 CALL = re.compile(r'^pub (?:extern "C" )?fn (\w+)(.*?)^\{', re.S | re.M)
@@ -29,8 +31,8 @@ def sources(project):
 
 
 def contracts(project):
-    """The declarations that the contracts of the public calls name."""
-    for source in sources(project):
+    """The declarations that the contracts of the public calls name, and those of the checking program's line."""
+    for source in [*sources(project), project.crates / LINE]:
         text = source.read_text()
         names = {}
         for line in text.split('\n'):

@@ -10,11 +10,11 @@ use lib.Dec.{ltb, leb}
 use lib.ListN.{length, drop, getD}
 use lib.Seq.{drop-cons}
 use Rattle.arguments.specs.declared.number.Parsed.the-variants.{Number, Malformed}
-use Rattle.arguments.specs.Number.{digitOf, numberFrom, numberOf}
+use Rattle.arguments.specs.Number.{digitOf, spelledFrom, numberOf}
 
 module _ (b most : ℕ) where
   -- a text with digits
-  pub some-digits : (s : List ℕ) → (length s ≡ 0 → ⊥) → numberOf b most s ≡ numberFrom b most 0 s
+  pub some-digits : (s : List ℕ) → (length s ≡ 0 → ⊥) → numberOf b most s ≡ spelledFrom b most 0 s
   unfolding numberOf
   some-digits [] h = absurd (h refl)
   some-digits (c ∷ cs) h = refl
@@ -26,14 +26,14 @@ module _ (b most : ℕ) where
 
   -- the next digit, of value d
   pub next-digit : (s : List ℕ) (i v d : ℕ) → i < length s → d ≡ digitOf (getD s i 0)
-      → numberFrom b most v (drop i s) ≡ cond (ltb d b) (cond (leb (v * b + d) most)
-      (numberFrom b most (v * b + d) (drop (i + 1) s)) Malformed) Malformed
-  unfolding numberFrom
+      → spelledFrom b most v (drop i s) ≡ cond (ltb d b) (cond (leb (v * b + d) most)
+      (spelledFrom b most (v * b + d) (drop (i + 1) s)) Malformed) Malformed
+  unfolding spelledFrom
   next-digit s i v d h e = rw (drop-cons s i 0 h, add-one, e)
 
   -- none left
-  pub last-digit : (s : List ℕ) (i v : ℕ) → length s ≤ i → numberFrom b most v (drop i s) ≡ Number v
-  unfolding numberFrom
+  pub last-digit : (s : List ℕ) (i v : ℕ) → length s ≤ i → spelledFrom b most v (drop i s) ≡ Number v
+  unfolding spelledFrom
   last-digit [] zero v h = refl
   last-digit [] (suc i) v h = refl
   last-digit (c ∷ cs) zero v h = absurd (omega arith)

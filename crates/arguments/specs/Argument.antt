@@ -1,12 +1,11 @@
 -- What an argument of the desk stepper says.
 -- Assumes nothing.
 use Prim.Native.Nat.{ℕ}
-use Prim.Native.Char.{code}
-use Prim.Native.String.{String, [] as nothing, _∷_ as _then_}
 use mathlib.Core.Bool.{Bool, true, false, cond, _&&_}
 use mathlib.Core.List.{List, [], _∷_}
 use lib.Dec.{eqb, ltb}
 use lib.ListN.{length, drop}
+use Rattle.lists.specs.Ascii.{ascii}
 use Rattle.arguments.specs.declared.number.Parsed.{Parsed}
 use Rattle.arguments.specs.declared.number.Parsed.the-variants.{Number, Malformed}
 use Rattle.arguments.specs.declared.argument.Setting.{Setting}
@@ -14,11 +13,6 @@ use Rattle.arguments.specs.declared.argument.Setting.the-variants.{A, B,
 use Rattle.arguments.specs.declared.argument.Argument.{Argument}
 use Rattle.arguments.specs.declared.argument.Argument.the-variants.{Set, Memory, Summary, Unknown}
 use Rattle.arguments.specs.Number.{numberOf}
-
--- a text in ASCII
-abbrev pub ascii : String → List ℕ
-ascii nothing = []
-ascii (c then s) = code c ∷ ascii s
 
 unfoldable pub startsWith : List ℕ → List ℕ → Bool
 startsWith [] s = true

@@ -18,13 +18,13 @@ digitOf c =
     (cond (leb c 102) (c - 87) 16)))))
 
 -- digits after those whose value is v; the value stays at most `most`
-unfoldable pub numberFrom : (base most v : ℕ) → List ℕ → Parsed
-numberFrom b most v [] = Number v
-numberFrom b most v (c ∷ cs) =
+unfoldable pub spelledFrom : (base most v : ℕ) → List ℕ → Parsed
+spelledFrom b most v [] = Number v
+spelledFrom b most v (c ∷ cs) =
     let w = v * b + digitOf c in
-    cond (ltb (digitOf c) b) (cond (leb w most) (numberFrom b most w cs) Malformed) Malformed
+    cond (ltb (digitOf c) b) (cond (leb w most) (spelledFrom b most w cs) Malformed) Malformed
 
 -- a text without digits spells none
 unfoldable pub numberOf : (base most : ℕ) → List ℕ → Parsed
 numberOf b most [] = Malformed
-numberOf b most (c ∷ cs) = numberFrom b most 0 (c ∷ cs)
+numberOf b most (c ∷ cs) = spelledFrom b most 0 (c ∷ cs)

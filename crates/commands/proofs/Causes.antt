@@ -6,7 +6,8 @@ use mathlib.Core.Path.{_≡_, refl}
 use mathlib.Core.Bool.{Bool, true, false, cond, and-eq-true-iff}
 use lib.Dec.{eqb}
 use borrow.Author.Tests.{eqb-true}
-use Rattle.commands.specs.Cause.{placeOf, follows, inOrder, rangesHold, edgesHold, separate, inside, commandCauseOf}
+use Rattle.commands.specs.Cause.{placeOf, follows, inOrder, rangesHold, edgesHold, separate, inside}
+use Rattle.commands.specs.Cause.{commandCauseOf}
 use Rattle.commands.specs.declared.command.Command.{Command}
 use Rattle.commands.specs.declared.progress.Progress.{Progress}
 

@@ -7,11 +7,11 @@ use native.Mathlib.Omega.{arith}
 use native.Mathlib.Numerals.{one-add}
 use mathlib.Core.List.{List, [], _∷_, _++_, append-assoc}
 use lib.Dec.{leb}
-use lib.ListN.{getD, length, take, drop, length-append, length-drop, take-append-drop}
+use lib.ListN.{length, take, drop, length-append, length-drop, take-append-drop}
 use lib.Seq.{take-at, drop-at, take-add, length-take-le}
 use borrow.Author.Tests.{ltb-true, leb-true, le-leb}
 use Rattle.commands.specs.Number.{number, digits, AllBytes}
-use Rattle.commands.specs.Rows.{Operand, widthIn, sizeOf, rows, layoutOf, known}
+use Rattle.commands.specs.Rows.{CommandOperand, widthIn, sizeOf, commandRows, layoutOf, known}
 use Rattle.commands.specs.Bytes.{joined, encodeOf, widthOf, operandsIn, commandOf, parseOf}
 use Rattle.commands.specs.Command.{commandByteOf, operandsOf, commandWith}
 use Rattle.commands.specs.Fits.{FitsRow, Fits}
@@ -20,8 +20,7 @@ use Rattle.commands.specs.Progress.{afterOf}
 use Rattle.commands.specs.declared.command.HeaderCommand.the-variants.{Code, Data, Stack, Entry}
 use Rattle.commands.specs.declared.command.Command.{Command}
 use Rattle.commands.specs.declared.command.Command.the-variants as Command
-use Rattle.commands.specs.declared.parse.Parsed.{Parsed}
-use Rattle.commands.specs.declared.parse.Parsed.the-variants as Parsed
+use Rattle.commands.specs.declared.parse.ParsedCommand.the-variants.{Unknown, Cut, Found}
 use Rattle.commands.specs.declared.progress.Progress.{Progress}
 use Rattle.commands.proofs.Table.{Matched, nothing, one, matched, row-size}
 use Rattle.commands.proofs.Digits.{length-digits, number-digits, number-below, digits-number, bytes-take}
@@ -45,7 +44,7 @@ said (Command.Mark a m) = record { known-byte = refl; as-many = refl; same = ref
 said (Command.Name a t) = record { known-byte = refl; as-many = refl; same = refl }
 
 -- the command of a byte has that byte, and the operands that it was made with
-command-parts : (b : ℕ) (s : List ℕ) → b < length rows → (commandByteOf (commandOf b s) ≡ b)
+command-parts : (b : ℕ) (s : List ℕ) → b < length commandRows → (commandByteOf (commandOf b s) ≡ b)
     × (operandsOf (commandOf b s) ≡ operandsIn (layoutOf b) s)
 unfolding commandOf
 command-parts zero s h = (refl, refl)
@@ -57,7 +56,7 @@ command-parts (suc (suc (suc (suc (suc zero))))) s h = (refl, refl)
 command-parts (suc (suc (suc (suc (suc (suc zero)))))) s h = (refl, refl)
 command-parts (suc (suc (suc (suc (suc (suc (suc b))))))) s h = let z : ⊥ = omega arith in absurd z
 
-length-joined : {os : List Operand} {vs : List ℕ} → Matched os vs → length (joined os vs) ≡ sizeOf os
+length-joined : {os : List CommandOperand} {vs : List ℕ} → Matched os vs → length (joined os vs) ≡ sizeOf os
 length-joined nothing = refl
 length-joined (one m) = simp (length-append, length-digits, length-joined m)
 
@@ -84,7 +83,7 @@ after-at p (Command.Name a t) = refl
 -- ---- the operands of a row
 
 -- what is joined is found again, whatever comes after it
-operands-joined : {row : List Operand} {vs : List ℕ} → FitsRow row vs → (s : List ℕ) →
+operands-joined : {row : List CommandOperand} {vs : List ℕ} → FitsRow row vs → (s : List ℕ) →
     operandsIn row (joined row vs ++ s) ≡ vs
 operands-joined none s = refl
 operands-joined (more {o} {os} {v} {vs} l f) s =
@@ -102,7 +101,7 @@ module _ (w : ℕ) (s : List ℕ) (a : AllBytes s) (room : w ≤ length s) where
   taken-below : number (take w s) < 256 ^ w
   taken-below = rw length-take-le at (number-below (take w s) (bytes-take w a))
 
-joined-operands : (row : List Operand) (s : List ℕ) → AllBytes s → sizeOf row ≤ length s →
+joined-operands : (row : List CommandOperand) (s : List ℕ) → AllBytes s → sizeOf row ≤ length s →
     joined row (operandsIn row s) ≡ take (sizeOf row) s
 joined-operands [] s a room = refl
 joined-operands (o ∷ os) s a room =
@@ -114,7 +113,8 @@ joined-operands (o ∷ os) s a room =
       ← take-add,
     )
 
-fits-operands : (row : List Operand) (s : List ℕ) → AllBytes s → sizeOf row ≤ length s → FitsRow row (operandsIn row s)
+fits-operands : (row : List CommandOperand) (s : List ℕ) → AllBytes s → sizeOf row ≤ length s →
+    FitsRow row (operandsIn row s)
 fits-operands [] s a room = none
 fits-operands (o ∷ os) s a room =
     let w = widthIn o in
@@ -123,7 +123,7 @@ fits-operands (o ∷ os) s a room =
 
 -- ---- reading
 
-pub parse-encode : (c : Command) (s : List ℕ) → Fits c → parseOf (encodeOf c ++ s) ≡ Parsed.Found c
+pub parse-encode : (c : Command) (s : List ℕ) → Fits c → parseOf (encodeOf c ++ s) ≡ Found c
 unfolding parseOf encodeOf commandOf widthOf
 parse-encode c s f =
     let row = layoutOf (commandByteOf c) in
@@ -132,7 +132,7 @@ parse-encode c s f =
     rw (said c .known-byte, le-leb _ _ room, operands-joined f s, said c .same)
 
 module _ (b : ℕ) (s : List ℕ) (c : Command) where
-  picked : (k r : Bool) → cond k (cond r (Parsed.Found (commandOf b s)) Parsed.Cut) Parsed.Unknown ≡ Parsed.Found c →
+  picked : (k r : Bool) → cond k (cond r (Found (commandOf b s)) Cut) Unknown ≡ Found c →
       (k ≡ true) × (r ≡ true) × (commandOf b s ≡ c)
   picked true true e = (refl, refl, cc)
   picked true false e = (refl, cc, cc)
@@ -140,7 +140,7 @@ module _ (b : ℕ) (s : List ℕ) (c : Command) where
   picked false false e = (cc, cc, cc)
 
   -- what is read from a byte and those after it has that byte and their operands
-  parts : parseOf (b ∷ s) ≡ Parsed.Found c → (commandByteOf c ≡ b) × (operandsOf c ≡ operandsIn (layoutOf b) s)
+  parts : parseOf (b ∷ s) ≡ Found c → (commandByteOf c ≡ b) × (operandsOf c ≡ operandsIn (layoutOf b) s)
       × (sizeOf (layoutOf b) ≤ length s)
   unfolding parseOf
   parts e =
@@ -149,24 +149,25 @@ module _ (b : ℕ) (s : List ℕ) (c : Command) where
       (cc (p .2, q .0), cc (p .2, q .1), leb-true _ _ (p .1))
 
 -- nothing is read from no bytes
-none-found : (c : Command) → parseOf [] ≡ Parsed.Found c → ⊥
+none-found : (c : Command) → parseOf [] ≡ Found c → ⊥
 unfolding parseOf
 none-found c e = let z : _≡_ {A = ℕ} 0 1 = cc in omega arith
 
-pub parse-room : (s : List ℕ) (c : Command) → parseOf s ≡ Parsed.Found c → widthOf c ≤ length s
+pub parse-room : (s : List ℕ) (c : Command) → parseOf s ≡ Found c → widthOf c ≤ length s
 unfolding widthOf
 parse-room [] c e = absurd (none-found c e)
 parse-room (b ∷ s) c e = let p = parts b s c e in rw (p .0) (omega (arith, p .2))
 
-pub encode-parse : (s : List ℕ) (c : Command) → AllBytes s → parseOf s ≡ Parsed.Found c →
+pub encode-parse : (s : List ℕ) (c : Command) → AllBytes s → parseOf s ≡ Found c →
     encodeOf c ++ drop (widthOf c) s ≡ s
 unfolding encodeOf widthOf
 encode-parse [] c a e = absurd (none-found c e)
 encode-parse (b ∷ s) c a e =
     let p = parts b s c e in
-    rw (p .1, p .0, joined-operands (layoutOf b) s (bytes-drop 1 a) (p .2), one-add, take-append-drop (sizeOf (layoutOf b)) s)
+    let row = layoutOf b in
+    rw (p .1, p .0, joined-operands row s (bytes-drop 1 a) (p .2), one-add, take-append-drop (sizeOf row) s)
 
-pub fits-parsed : (s : List ℕ) (c : Command) → AllBytes s → parseOf s ≡ Parsed.Found c → Fits c
+pub fits-parsed : (s : List ℕ) (c : Command) → AllBytes s → parseOf s ≡ Found c → Fits c
 fits-parsed [] c a e = absurd (none-found c e)
 fits-parsed (b ∷ s) c a e =
     let p = parts b s c e in

@@ -7,8 +7,8 @@ use native.Mathlib.Omega.{arith}
 use mathlib.Core.List.{List, [], _∷_, _++_}
 use lib.ListN.{length, set}
 use lib.Seq.{set-split}
-use Rattle.lists.specs.inner.Splice.{spliced}
-use Rattle.lists.proofs.Splice.{Placed, placed-none, placed-next}
+use Rattle.lists.specs.Splice.{spliced}
+use Rattle.lists.proofs.Splice.{Placed, placed-next}
 use Rattle.commands.specs.Number.{digits}
 use Rattle.commands.proofs.Digits.{length-digits}
 

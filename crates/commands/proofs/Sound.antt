@@ -81,7 +81,8 @@ module _ (p : Progress) (s : Sound p) where
   unfolding afterOf
   after (Command.Header c) a =
       let l = header-law (p .header) c in
-      to-header p s _ (width-most (Command.Header c)) _ (omega (arith, in-order p (Command.Header c) (a .ordered) .0, l .early))
+      let o = in-order p (Command.Header c) (a .ordered) in
+      to-header p s _ (width-most (Command.Header c)) _ (omega (arith, o .0, l .early))
       (l .small (a .ranged) (s .small))
   after (Command.Mark m k) a =
       let o = in-order p (Command.Mark m k) (a .ordered) in

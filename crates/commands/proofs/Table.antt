@@ -4,18 +4,18 @@
 use mathlib.Core.Path.{_≡_, refl, subst}
 use mathlib.Core.Bool.{Bool, true, false, _&&_, _||_, and-eq-true-iff, true≢false, and-true}
 use Prim.Native.Nat.{ℕ, zero, suc, _+_, _^_, _≤_, _<_}
-use native.Mathlib.Nat.{add-zero, add-assoc}
 use native.Mathlib.Omega.{arith}
 use mathlib.Core.List.{List, [], _∷_, _++_, append-nil, append-assoc}
 use lib.Dec.{eqb, leb}
-use lib.ListN.{getD, length, take, drop}
+use lib.ListN.{getD, length}
 use lib.Seq.{drop-drop}
 use borrow.Author.Tests.{eqb-true, leb-true, le-leb}
-use Rattle.commands.specs.Number.{number, digits}
-use Rattle.commands.specs.Rows.{Operand, any, within, text, widthIn, sizeOf, inRange, Row, rows, rowOf, layoutOf}
+use Rattle.commands.specs.Number.{digits}
+use Rattle.commands.specs.Rows.{CommandOperand, any, within, text, widthIn, sizeOf, inRange, CommandRow}
+use Rattle.commands.specs.Rows.{commandRows, rowOf, layoutOf}
 use Rattle.commands.specs.Bytes.{joined, operandsIn}
 use Rattle.commands.specs.Cause.{allInRange}
-use Rattle.commands.specs.declared.row.Row.{Row as CodeRow}
+use Rattle.commands.specs.declared.row.CommandRow.{CommandRow as CodeRow}
 use Rattle.commands.specs.declared.command.Operands.{Operands}
 use Rattle.commands.specs.inner.Table.{codeOperand, operandAt, codeRow, codeSize, codeValues, valuesIn, FitsCode}
 use Rattle.commands.specs.inner.Table.{inRangeCode, rangesHoldCode, Widths, Width, none, word, long, quad}
@@ -29,29 +29,29 @@ use Rattle.commands.specs.declared.row.Extent.the-variants.{None, Window
 wide : ℕ → Bool
 wide w = eqb w 0 || (eqb w 2 || (eqb w 4 || eqb w 8))
 
-allWide : List Operand → Bool
+allWide : List CommandOperand → Bool
 allWide [] = true
 allWide (o ∷ os) = wide (widthIn o) && allWide os
 
 -- a window's start and length have two bytes
-windowed : Extent → List Operand → Bool
+windowed : Extent → List CommandOperand → Bool
 windowed None os = true
 windowed (Window least) os = eqb (operandAt os 0 .width) 2 && eqb (operandAt os 1 .width) 2
 
 -- what the code takes for granted of a row: at most four operands of such widths, of at most ten bytes
-taken : Row → Bool
+taken : CommandRow → Bool
 taken r =
     let os = r .operands in
     leb (length os) 4 && (allWide os && (leb (sizeOf os) 10 && windowed (r .extent) os))
 
-allTaken : List Row → Bool
+allTaken : List CommandRow → Bool
 allTaken [] = true
 allTaken (r ∷ rs) = taken r && allTaken rs
 
-abbrev blankRow : Row
+abbrev blankRow : CommandRow
 blankRow = record { place = 0; extent = None; operands = [] }
 
-taken-at : (rs : List Row) → allTaken rs ≡ true → (b : ℕ) → taken (getD rs b blankRow) ≡ true
+taken-at : (rs : List CommandRow) → allTaken rs ≡ true → (b : ℕ) → taken (getD rs b blankRow) ≡ true
 unfolding taken allTaken allWide windowed
 taken-at [] e b = refl
 taken-at (r ∷ rs) e zero = and-eq-true-iff _ _ .0 e .0
@@ -67,7 +67,7 @@ record Taken (b : ℕ) : Type 0 where
 row-taken : (b : ℕ) → Taken b
 unfolding taken allTaken allWide wide windowed
 row-taken b =
-    let t = and-eq-true-iff (leb (length (layoutOf b)) 4) _ .0 (taken-at rows refl b) in
+    let t = and-eq-true-iff (leb (length (layoutOf b)) 4) _ .0 (taken-at commandRows refl b) in
     let u = and-eq-true-iff (allWide (layoutOf b)) _ .0 (t .1) in
     let v = and-eq-true-iff (leb (sizeOf (layoutOf b)) 10) _ .0 (u .1) in
     record { short = leb-true _ _ (t .0); wides = u .0; sized = leb-true _ _ (v .0); windows = v .1 }
@@ -86,12 +86,12 @@ by-test w false false true d e₀ e₂ e₄ e₈ t = rw (eqb-true w 4 e₄) long
 by-test w false false false true e₀ e₂ e₄ e₈ t = rw (eqb-true w 8 e₈) quad
 by-test w false false false false e₀ e₂ e₄ e₈ t = absurd (true≢false cc)
 
-operand-width : (o : Operand) → codeOperand o .width ≡ widthIn o
+operand-width : (o : CommandOperand) → codeOperand o .width ≡ widthIn o
 operand-width (any w) = refl
 operand-width (within w l m) = refl
 operand-width (text w) = refl
 
-width-at : (os : List Operand) → allWide os ≡ true → (i : ℕ) → Width (operandAt os i .width)
+width-at : (os : List CommandOperand) → allWide os ≡ true → (i : ℕ) → Width (operandAt os i .width)
 unfolding allWide wide
 width-at [] e i = none
 width-at (o ∷ os) e zero =
@@ -110,10 +110,10 @@ last-width w quad z t f = refl
 
 -- ---- four operands for those of a row
 
-abbrev width : List Operand → ℕ → ℕ
+abbrev width : List CommandOperand → ℕ → ℕ
 width os i = operandAt os i .width
 
-size-code : (os : List Operand) → length os ≤ 4 → width os 0 + width os 1 + width os 2 + width os 3 ≡ sizeOf os
+size-code : (os : List CommandOperand) → length os ≤ 4 → width os 0 + width os 1 + width os 2 + width os 3 ≡ sizeOf os
 size-code [] l = refl
 size-code (o ∷ []) l = simp operand-width (omega arith)
 size-code (o ∷ p ∷ []) l = simp operand-width (omega arith)
@@ -121,7 +121,7 @@ size-code (o ∷ p ∷ q ∷ []) l = simp operand-width (omega arith)
 size-code (o ∷ p ∷ q ∷ r ∷ []) l = simp operand-width (omega arith)
 size-code (o ∷ p ∷ q ∷ r ∷ t ∷ os) l = absurd (omega arith)
 
-values-code : (n : ℕ) (x : Extent) (os : List Operand) (s : List ℕ) → length os ≤ 4 →
+values-code : (n : ℕ) (x : Extent) (os : List CommandOperand) (s : List ℕ) → length os ≤ 4 →
     valuesIn (codeRow (record { place = n; extent = x; operands = os })) s ≡ codeValues (operandsIn os s)
 values-code n x [] s l = refl
 values-code n x (o ∷ []) s l = simp operand-width
@@ -131,20 +131,21 @@ values-code n x (o ∷ p ∷ q ∷ r ∷ []) s l = simp (operand-width, drop-dro
 values-code n x (o ∷ p ∷ q ∷ r ∷ t ∷ os) s l = absurd (omega arith)
 
 -- as many values as operands
-pub data Matched : List Operand → List ℕ → Type 0 where
+pub data Matched : List CommandOperand → List ℕ → Type 0 where
   nothing : Matched [] []
-  one : {o : Operand} {os : List Operand} {v : ℕ} {vs : List ℕ} → Matched os vs → Matched (o ∷ os) (v ∷ vs)
+  one : {o : CommandOperand} {os : List CommandOperand} {v : ℕ} {vs : List ℕ} → Matched os vs →
+      Matched (o ∷ os) (v ∷ vs)
 
-pub matched : (os : List Operand) (vs : List ℕ) → length vs ≡ length os → Matched os vs
+pub matched : (os : List CommandOperand) (vs : List ℕ) → length vs ≡ length os → Matched os vs
 matched [] [] e = nothing
 matched [] (v ∷ vs) e = absurd (omega arith)
 matched (o ∷ os) [] e = absurd (omega arith)
 matched (o ∷ os) (v ∷ vs) e = one (matched os vs (omega arith))
 
-abbrev bytesAt : List Operand → List ℕ → ℕ → List ℕ
+abbrev bytesAt : List CommandOperand → List ℕ → ℕ → List ℕ
 bytesAt os vs i = digits (width os i) (getD vs i 0)
 
-joined-code : {os : List Operand} {vs : List ℕ} → Matched os vs → length os ≤ 4
+joined-code : {os : List CommandOperand} {vs : List ℕ} → Matched os vs → length os ≤ 4
     → (bytesAt os vs 0 ++ bytesAt os vs 1) ++ (bytesAt os vs 2 ++ bytesAt os vs 3) ≡ joined os vs
 joined-code nothing l = refl
 joined-code (one {o} nothing) l = simp (operand-width, append-nil)
@@ -156,7 +157,7 @@ joined-code (one (one (one (one (one m))))) l = absurd (omega arith)
 
 -- ---- ranges
 
-in-range : (o : Operand) (v : ℕ) → v ≤ 0xffffffffffffffff → inRangeCode (codeOperand o) v ≡ inRange o v
+in-range : (o : CommandOperand) (v : ℕ) → v ≤ 0xffffffffffffffff → inRangeCode (codeOperand o) v ≡ inRange o v
 in-range (any w) v h = simp (le-leb 0 v (omega arith), le-leb _ _ h)
 in-range (within w l m) v h = refl
 in-range (text w) v h = refl
@@ -169,10 +170,10 @@ Bounded v =
     × (v .third ≤ 0xffffffffffffffff)
     × (v .fourth ≤ 0xffffffffffffffff)
 
-abbrev rangeAt : List Operand → List ℕ → ℕ → Bool
+abbrev rangeAt : List CommandOperand → List ℕ → ℕ → Bool
 rangeAt os vs i = inRangeCode (operandAt os i) (getD vs i 0)
 
-ranges-code : {os : List Operand} {vs : List ℕ} → Matched os vs → length os ≤ 4 → Bounded (codeValues vs)
+ranges-code : {os : List CommandOperand} {vs : List ℕ} → Matched os vs → length os ≤ 4 → Bounded (codeValues vs)
     → (rangeAt os vs 0 && (rangeAt os vs 1 && (rangeAt os vs 2 && rangeAt os vs 3))) ≡ allInRange os vs
 ranges-code nothing l h = refl
 ranges-code (one {o} nothing) l h = simp (in-range o _ (h .0))
@@ -188,7 +189,7 @@ ranges-code (one (one (one (one (one m))))) l h = absurd (omega arith)
 two-bytes : (w v : ℕ) → w ≡ 2 → v < 256 ^ w → v < 65536
 two-bytes w v e h = rw e at h
 
-window-fits : (x : Extent) (os : List Operand) → windowed x os ≡ true → (v : Operands)
+window-fits : (x : Extent) (os : List CommandOperand) → windowed x os ≡ true → (v : Operands)
     → v .first < 256 ^ operandAt os 0 .width → v .second < 256 ^ operandAt os 1 .width → OperandsOfWindow x v
 unfolding windowed
 window-fits None os t v f g = tt

@@ -7,14 +7,14 @@ use mathlib.Core.List.{List, [], _∷_, _++_}
 use lib.Dec.{leb}
 use lib.ListN.{length, take, drop}
 use Rattle.commands.specs.Number.{number, digits}
-use Rattle.commands.specs.Rows.{Operand, widthIn, sizeOf, layoutOf, known}
+use Rattle.commands.specs.Rows.{CommandOperand, widthIn, sizeOf, layoutOf, known}
 use Rattle.commands.specs.Command.{commandByteOf, operandsOf, commandWith}
 use Rattle.commands.specs.declared.command.Command.{Command}
-use Rattle.commands.specs.declared.parse.Parsed.{Parsed}
-use Rattle.commands.specs.declared.parse.Parsed.the-variants as Parsed
+use Rattle.commands.specs.declared.parse.ParsedCommand.{ParsedCommand}
+use Rattle.commands.specs.declared.parse.ParsedCommand.the-variants.{Unknown, Cut, Found}
 
 -- some operands by the widths of a row
-abbrev pub joined : List Operand → List ℕ → List ℕ
+abbrev pub joined : List CommandOperand → List ℕ → List ℕ
 joined [] vs = []
 joined (o ∷ os) [] = []
 joined (o ∷ os) (v ∷ vs) = digits (widthIn o) v ++ joined os vs
@@ -26,7 +26,7 @@ unfoldable pub widthOf : Command → ℕ
 widthOf c = 1 + sizeOf (layoutOf (commandByteOf c))
 
 -- the operands of a row that some bytes begin with
-abbrev pub operandsIn : List Operand → List ℕ → List ℕ
+abbrev pub operandsIn : List CommandOperand → List ℕ → List ℕ
 operandsIn [] s = []
 operandsIn (o ∷ os) s = number (take (widthIn o) s) ∷ operandsIn os (drop (widthIn o) s)
 
@@ -34,7 +34,7 @@ unfoldable pub commandOf : ℕ → List ℕ → Command
 commandOf b s = commandWith b (operandsIn (layoutOf b) s)
 
 -- an unknown byte comes before operands cut short (document 01's causes 1 and 2)
-unfoldable pub parseOf : List ℕ → Parsed
-parseOf [] = Parsed.Cut
+unfoldable pub parseOf : List ℕ → ParsedCommand
+parseOf [] = Cut
 parseOf (b ∷ s) =
-    cond (known b) (cond (leb (sizeOf (layoutOf b)) (length s)) (Parsed.Found (commandOf b s)) Parsed.Cut) Parsed.Unknown
+    cond (known b) (cond (leb (sizeOf (layoutOf b)) (length s)) (Found (commandOf b s)) Cut) Unknown

@@ -5,7 +5,7 @@ use Prim.Native.Nat.{ℕ}
 use mathlib.Core.Bool.{Bool, true, cond, _&&_, _||_}
 use mathlib.Core.List.{List, [], _∷_}
 use lib.Dec.{eqb, ltb, leb}
-use Rattle.commands.specs.Rows.{Operand, inRange, rowOf, layoutOf}
+use Rattle.commands.specs.Rows.{CommandOperand, inRange, rowOf, layoutOf}
 use Rattle.commands.specs.Command.{commandByteOf, operandsOf, windowOf}
 use Rattle.commands.specs.Header.{pastOf, holds}
 use Rattle.commands.specs.declared.header.Window.{Window}
@@ -32,7 +32,7 @@ abbrev pub inOrder : Progress → Command → Bool
 inOrder p c = eqb (p .stage) (placeOf c) && follows p c
 
 -- 4: each operand is in its range
-abbrev pub allInRange : List Operand → List ℕ → Bool
+abbrev pub allInRange : List CommandOperand → List ℕ → Bool
 allInRange [] vs = true
 allInRange (o ∷ os) [] = true
 allInRange (o ∷ os) (v ∷ vs) = inRange o v && allInRange os vs

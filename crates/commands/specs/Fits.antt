@@ -3,13 +3,13 @@
 -- Assumes nothing.
 use Prim.Native.Nat.{ℕ, _^_, _<_}
 use mathlib.Core.List.{List, [], _∷_}
-use Rattle.commands.specs.Rows.{Operand, widthIn, layoutOf}
+use Rattle.commands.specs.Rows.{CommandOperand, widthIn, layoutOf}
 use Rattle.commands.specs.Command.{commandByteOf, operandsOf}
 use Rattle.commands.specs.declared.command.Command.{Command}
 
-pub data FitsRow : List Operand → List ℕ → Type 0 where
+pub data FitsRow : List CommandOperand → List ℕ → Type 0 where
   none : FitsRow [] []
-  more : {o : Operand} {os : List Operand} {v : ℕ} {vs : List ℕ} → v < 256 ^ widthIn o → FitsRow os vs →
+  more : {o : CommandOperand} {os : List CommandOperand} {v : ℕ} {vs : List ℕ} → v < 256 ^ widthIn o → FitsRow os vs →
       FitsRow (o ∷ os) (v ∷ vs)
 
 abbrev pub Fits : Command → Type 0

@@ -10,18 +10,18 @@ use Rattle.commands.specs.declared.row.Extent.{Extent}
 use Rattle.commands.specs.declared.row.Extent.the-variants.{None, Window}
 
 -- an operand: its width, and its range if it has one
-pub data Operand : Type 0 where
-  any : (width : ℕ) → Operand
-  within : (width least most : ℕ) → Operand
-  text : (width : ℕ) → Operand
+pub data CommandOperand : Type 0 where
+  any : (width : ℕ) → CommandOperand
+  within : (width least most : ℕ) → CommandOperand
+  text : (width : ℕ) → CommandOperand
 
-abbrev pub widthIn : Operand → ℕ
+abbrev pub widthIn : CommandOperand → ℕ
 widthIn (any w) = w
 widthIn (within w l m) = w
 widthIn (text w) = w
 
 -- how many bytes the operands of a row have
-abbrev pub sizeOf : List Operand → ℕ
+abbrev pub sizeOf : List CommandOperand → ℕ
 sizeOf [] = 0
 sizeOf (o ∷ os) = widthIn o + sizeOf os
 
@@ -33,21 +33,21 @@ abbrev pub printable : List ℕ → Bool
 printable [] = true
 printable (b ∷ s) = between 0x20 0x7e b && printable s
 
-abbrev pub inRange : Operand → ℕ → Bool
+abbrev pub inRange : CommandOperand → ℕ → Bool
 inRange (any w) v = true
 inRange (within w l m) v = between l m v
 inRange (text w) v = printable (digits w v)
 
 -- how many commands of the header come before it; whether its first two operands are a window's start and length, which
 -- then starts at some address or later; its operands
-pub record Row : Type 0 where
+pub record CommandRow : Type 0 where
   pub place : ℕ
   pub extent : Extent
-  pub operands : List Operand
+  pub operands : List CommandOperand
 
 -- by the command's byte
-abbrev pub rows : List Row
-rows =
+abbrev pub commandRows : List CommandRow
+commandRows =
     -- $00 end
     record { place = 4; extent = None; operands = [] }
     -- $01 code window: start, length
@@ -68,11 +68,11 @@ rows =
     ∷ record { place = 4; extent = None; operands = any 2 ∷ text 8 ∷ [] }
     ∷ []
 
-abbrev pub rowOf : ℕ → Row
-rowOf b = getD rows b (record { place = 0; extent = None; operands = [] })
+abbrev pub rowOf : ℕ → CommandRow
+rowOf b = getD commandRows b (record { place = 0; extent = None; operands = [] })
 
 -- the operands of the command with a byte
-abbrev pub layoutOf : ℕ → List Operand
+abbrev pub layoutOf : ℕ → List CommandOperand
 layoutOf b = rowOf b .operands
 
 -- how many commands a header has: all of them come before the end
@@ -80,4 +80,4 @@ abbrev pub headerLength : ℕ
 headerLength = rowOf 0x00 .place
 
 abbrev pub known : ℕ → Bool
-known b = ltb b (length rows)
+known b = ltb b (length commandRows)

@@ -15,8 +15,8 @@ use crate::header::Window;
 use crate::header::holds;
 use crate::header::past;
 use crate::progress::Progress;
+use crate::row::CommandOperand;
 use crate::row::Extent;
-use crate::row::Operand;
 use crate::row::row_of;
 
 fn follows(p: Progress, c: Command) -> bool
@@ -59,7 +59,7 @@ fn printable(text: u64, width: usize) -> bool
     true
 }
 
-fn in_range(o: Operand, v: u64) -> bool
+fn in_range(o: CommandOperand, v: u64) -> bool
     ensures { λ r. ⌜ r ≡ inRangeCode o v ⌝ }
 {
     if o.text {

@@ -2,7 +2,7 @@
 ghost use mathlib.Core.Path.{_≡_};
 ghost use Prim.Native.Nat.{_<_};
 ghost use lib.ListN.{length};
-ghost use Rattle.commands.specs.Rows.{rows, rowOf};
+ghost use Rattle.commands.specs.Rows.{commandRows, rowOf};
 ghost use Rattle.commands.specs.Command.{headerByteOf, commandByteOf, windowOperandsOf, headerOperandsOf};
 ghost use Rattle.commands.specs.Command.{operandsOf, commandWith, windowOf};
 ghost use Rattle.commands.specs.inner.Table.{codeRow, codeValues, valuesOf, FitsCode};
@@ -126,7 +126,7 @@ pub fn window(v: Operands) -> Window
 
 // The command of a byte and its operands.
 pub fn command_with(b: u8, v: Operands) -> Command
-    requires { ⌜ (b < length rows) × FitsCode (codeRow (rowOf b)) v ⌝ }
+    requires { ⌜ (b < length commandRows) × FitsCode (codeRow (rowOf b)) v ⌝ }
     ensures { λ r. ⌜ r ≡ commandWith b (valuesOf v) ⌝ }
 {
     match b {

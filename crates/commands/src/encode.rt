@@ -2,7 +2,7 @@
 ghost use mathlib.Core.Path.{_≡_};
 ghost use Prim.Native.Nat.{_+_, _≤_};
 ghost use lib.ListN.{length};
-ghost use Rattle.lists.specs.inner.Splice.{spliced};
+ghost use Rattle.lists.specs.Splice.{spliced};
 ghost use mathlib.Core.List.{_++_};
 ghost use Rattle.commands.specs.Number.{digits};
 ghost use Rattle.commands.specs.inner.Table.{Width};
@@ -11,7 +11,7 @@ use crate::command::Command;
 use crate::command::byte_of;
 use crate::command::operands_of;
 use crate::number::put_number;
-use crate::row::Operand;
+use crate::row::CommandOperand;
 use crate::row::row_of;
 use crate::row::size;
 
@@ -23,7 +23,14 @@ pub fn width_of(c: Command) -> u32
 }
 
 // Two operands at an offset of the output; the offset after them.
-fn put_pair(o: Operand, v: u64, p: Operand, w: u64, out: &mut [u8], at: usize) -> usize
+fn put_pair(
+    o: CommandOperand,
+    v: u64,
+    p: CommandOperand,
+    w: u64,
+    out: &mut [u8],
+    at: usize,
+) -> usize
     requires { ⌜ Width (o .width) × Width (p .width) × (at + o .width + p .width ≤ length (now out)) ⌝ }
     ensures { λ r. ⌜ (now (out .exit) ≡ spliced (now (out .entry)) at (digits (o .width) v ++ digits (p .width) w))
         × (r ≡ at + o .width + p .width) ⌝ }

@@ -1,5 +1,5 @@
-// The header of a ticket: its three windows, its entry and its cycle limit (document 01, "The ticket", $01 to $04), what
-// a command states of it, and the commands that state all of it.
+// The header of a ticket: its three windows, its entry and its cycle limit (document 01, "The ticket", $01 to $04);
+// what a command states of it, and the commands that state all of it.
 ghost use mathlib.Core.Path.{_≡_};
 ghost use Prim.Native.Nat.{_<_};
 ghost use lib.ListN.{getD};

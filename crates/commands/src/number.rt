@@ -2,7 +2,7 @@
 ghost use mathlib.Core.Path.{_≡_};
 ghost use Prim.Native.Nat.{_+_, _≤_, _^_, _<_};
 ghost use lib.ListN.{length, take, drop};
-ghost use Rattle.lists.specs.inner.Splice.{spliced};
+ghost use Rattle.lists.specs.Splice.{spliced};
 ghost use Rattle.commands.specs.Number.{number, digits};
 ghost use Rattle.commands.specs.inner.Table.{Width};
 

@@ -9,19 +9,19 @@ use crate::command::Operands;
 use crate::command::command_with;
 use crate::number::number;
 use crate::row::COMMANDS;
-use crate::row::Row;
+use crate::row::CommandRow;
 use crate::row::row_of;
 use crate::row::size;
 
 // What bytes begin with.
-pub enum Parsed {
+pub enum ParsedCommand {
     Unknown, // no command has this byte
     Cut, // no byte is left, or the operands are cut short
     Found(Command),
 }
 
 // The operands of a row that bytes begin with.
-fn operands_in(row: Row, s: &[u8]) -> Operands
+fn operands_in(row: CommandRow, s: &[u8]) -> Operands
     requires { ⌜ Widths row × (codeSize row ≤ length (now s)) × (codeSize row ≤ 10) ⌝ }
     ensures { λ r. ⌜ (r ≡ valuesIn row (now (s .entry))) × FitsCode row r ⌝ }
 {
@@ -40,19 +40,19 @@ fn operands_in(row: Row, s: &[u8]) -> Operands
     }
 }
 
-pub fn parse(s: &[u8]) -> Parsed
+pub fn parse(s: &[u8]) -> ParsedCommand
     ensures { λ r. ⌜ r ≡ parseOf (now (s .entry)) ⌝ }
 {
     if s.len() == 0 {
-        return Parsed::Cut;
+        return ParsedCommand::Cut;
     }
     let b = s[0];
     if COMMANDS <= b {
-        return Parsed::Unknown;
+        return ParsedCommand::Unknown;
     }
     let row = row_of(b);
     if s.len() - 1 < size(row) {
-        return Parsed::Cut;
+        return ParsedCommand::Cut;
     }
-    Parsed::Found(command_with(b, operands_in(row, &s[1..])))
+    ParsedCommand::Found(command_with(b, operands_in(row, &s[1..])))
 }

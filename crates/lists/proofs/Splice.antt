@@ -7,7 +7,7 @@ use native.Mathlib.Omega.{arith}
 use mathlib.Core.List.{List, [], _++_, append-assoc}
 use lib.ListN.{length, take, drop, length-append, take-append-drop}
 use lib.Seq.{take-at, drop-at, drop-drop, length-take-le, paste}
-use Rattle.lists.specs.inner.Splice.{spliced}
+use Rattle.lists.specs.Splice.{spliced}
 
 -- a copy of the first n bytes, if these are a
 pub paste-spliced : (old : List ℕ) (at : ℕ) (a b : List ℕ) (n : ℕ) → length a ≡ n →

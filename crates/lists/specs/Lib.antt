@@ -1,2 +1,3 @@
 pub mod Bit
-pub mod inner
+pub mod Splice
+pub mod Ascii

@@ -7,7 +7,7 @@ use mathlib.Core.List.{List}
 use Rattle.registers.specs.declared.Cycles.{Cycles}
 use Rattle.registers.specs.declared.StackBytes.{StackBytes}
 use Rattle.commands.specs.Number.{AllBytes}
-use Rattle.ticket.specs.Fields.{Outcome, read, refused}
+use Rattle.ticket.specs.Fields.{ReadOutcome, read, refused}
 use Rattle.ticket.specs.Read.{readOf}
 use Rattle.ticket.proofs.Accepts.{read-rules, rules-read}
 use Rattle.answers.specs.declared.Verdict.the-variants.{Accept}
@@ -18,7 +18,7 @@ use Rattle.rules.proofs.Sound.{accepted}
 use Rattle.rules.proofs.Complete.{accepts}
 
 -- by what reading the ticket gives
-certifies : (ticket image : List ℕ) → AllBytes ticket → (e : ℕ) (c : Cycles) (s : StackBytes) (o : Outcome) →
+certifies : (ticket image : List ℕ) → AllBytes ticket → (e : ℕ) (c : Cycles) (s : StackBytes) (o : ReadOutcome) →
     readOf ticket ≡ o → verdictBy o image ≡ Accept e c s → Certified ticket image e c s
 certifies ticket image b e c s (refused r) h v = absurd (refuses e c s r v)
 certifies ticket image b e c s (read f) h v =

@@ -10,7 +10,7 @@ use lib.ListN.{length}
 use Rattle.commands.specs.Header.{pastOf, holds}
 use Rattle.commands.specs.declared.command.Claim.{Claim}
 use Rattle.ticket.specs.declared.fields.Mark.{Mark}
-use Rattle.ticket.specs.Fields.{Fields, Outcome, read, refused}
+use Rattle.ticket.specs.Fields.{Fields, ReadOutcome, read, refused}
 use Rattle.ticket.specs.Read.{refusal, readOf}
 use Rattle.answers.specs.declared.Verdict.{Verdict}
 use Rattle.answers.specs.declared.Verdict.the-variants.{Accept, Refuse}
@@ -181,7 +181,7 @@ unfoldable pub verdictOn : Fields → List ℕ → Verdict
 verdictOn f image =
     firstFailing (checksOf f image) (acceptOf (f .header .entry) (claimAt (f .marks) (f .header .entry)))
 
-abbrev pub verdictBy : Outcome → List ℕ → Verdict
+abbrev pub verdictBy : ReadOutcome → List ℕ → Verdict
 verdictBy (refused r) image = Refuse r
 verdictBy (read f) image = verdictOn f image
 

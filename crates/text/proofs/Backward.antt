@@ -7,7 +7,7 @@ use native.Mathlib.Nat.{add-suc, suc-add}
 use native.Mathlib.Omega.{arith}
 use lib.ListN.{length, take, set}
 use lib.Seq.{length-take-le, set-append-left, take-set-lt, take-suc-set}
-use Rattle.lists.specs.inner.Splice.{spliced}
+use Rattle.lists.specs.Splice.{spliced}
 use Rattle.lists.proofs.Splice.{placed-none}
 use Rattle.text.specs.Number.{decimalOf}
 use Rattle.text.proofs.Digits.{lastBefore, decimal-last}

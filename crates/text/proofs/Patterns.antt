@@ -5,8 +5,8 @@ use mathlib.Core.List.{List}
 use Prim.Native.Nat.{ℕ}
 use Rattle.registers.specs.Word.{targetOf}
 use Rattle.opcodes.specs.declared.instruction.Mode.the-variants as Mode
-use Rattle.lists.specs.inner.Splice.{spliced}
-use Rattle.text.specs.Text.{ascii}
+use Rattle.lists.specs.Splice.{spliced}
+use Rattle.lists.specs.Ascii.{ascii}
 use Rattle.text.specs.Number.{byteHex, hexOf}
 use Rattle.text.specs.Operand.{operandText}
 

@@ -8,7 +8,7 @@ use native.Mathlib.Omega.{arith}
 use lib.ListN.{length, length-append}
 use Rattle.answers.specs.declared.Verdict.{Verdict}
 use Rattle.answers.specs.declared.Verdict.the-variants.{Accept, Refuse}
-use Rattle.lists.specs.inner.Splice.{spliced}
+use Rattle.lists.specs.Splice.{spliced}
 use Rattle.lists.proofs.Splice.{Placed}
 use Rattle.text.specs.Number.{hexOf, decimalOf}
 use Rattle.text.specs.Verdict.{accept, refuse, space, end, acceptLine, refuseLine, lineOf}

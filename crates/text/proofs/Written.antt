@@ -6,7 +6,7 @@ use Prim.Native.Nat.{ℕ, _+_, _≤_}
 use native.Mathlib.Omega.{arith}
 use lib.ListN.{length, take, drop, length-append}
 use lib.Seq.{take-at, length-take-le}
-use Rattle.lists.specs.inner.Splice.{spliced}
+use Rattle.lists.specs.Splice.{spliced}
 use Rattle.text.specs.Number.{hexOf}
 use Rattle.text.specs.Columns.{flagsText}
 

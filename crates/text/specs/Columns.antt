@@ -8,7 +8,7 @@ use mathlib.Core.List.{List, [], _∷_, _++_}
 use Rattle.registers.specs.Flags.{bit, low}
 use Rattle.registers.specs.declared.Registers.{Registers}
 use Rattle.text.specs.declared.listing.Listing.{Listing}
-use Rattle.text.specs.Text.{ascii}
+use Rattle.lists.specs.Ascii.{ascii}
 use Rattle.text.specs.Number.{byteHex, hexOf}
 
 -- the address, the bytes, the mnemonic and the operand, a space between

@@ -3,7 +3,7 @@
 -- Assumes nothing.
 use Prim.Native.Nat.{ℕ}
 use mathlib.Core.List.{List, _++_}
-use Rattle.text.specs.Text.{ascii}
+use Rattle.lists.specs.Ascii.{ascii}
 use Rattle.text.specs.declared.last.Totals.{Totals}
 use Rattle.text.specs.Line.{pairText}
 

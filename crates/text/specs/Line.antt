@@ -3,7 +3,7 @@
 use Prim.Native.Nat.{ℕ}
 use mathlib.Core.List.{List, _++_}
 use lib.ListN.{take}
-use Rattle.text.specs.Text.{ascii}
+use Rattle.lists.specs.Ascii.{ascii}
 use Rattle.text.specs.Number.{decimalOf}
 use Rattle.text.specs.declared.line.Line.{Line}
 

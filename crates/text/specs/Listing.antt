@@ -10,7 +10,8 @@ use Rattle.registers.specs.Word.{wrappingAdd}
 use Rattle.opcodes.specs.Tables.{costAt, lengthAt, actionAt, modeAt}
 use Rattle.opcodes.specs.Decode.{Bytes, opcodeSize, placeIn}
 use Rattle.text.specs.declared.listing.Listing.{Listing}
-use Rattle.text.specs.Text.{ascii, padded}
+use Rattle.lists.specs.Ascii.{ascii}
+use Rattle.text.specs.Text.{padded}
 use Rattle.text.specs.Number.{byteHex}
 use Rattle.text.specs.Mnemonic.{mnemonicOf}
 use Rattle.text.specs.Operand.{operandText}

@@ -27,7 +27,8 @@ use Rattle.opcodes.specs.declared.instruction.Index.the-variants as Ix
 use Rattle.opcodes.specs.declared.instruction.Word.{Word}
 use Rattle.opcodes.specs.declared.instruction.Word.the-variants as Wd
 use Rattle.opcodes.specs.declared.instruction.Mode.{Mode}
-use Rattle.text.specs.Text.{ascii, padded}
+use Rattle.lists.specs.Ascii.{ascii}
+use Rattle.text.specs.Text.{padded}
 
 abbrev pub name : String → List ℕ
 name s = padded 5 (ascii s)

@@ -6,7 +6,8 @@ use mathlib.Core.List.{List, [], _++_}
 use Rattle.registers.specs.Word.{targetOf}
 use Rattle.opcodes.specs.declared.instruction.Mode.{Mode}
 use Rattle.opcodes.specs.declared.instruction.Mode.the-variants as Mode
-use Rattle.text.specs.Text.{ascii, padded}
+use Rattle.lists.specs.Ascii.{ascii}
+use Rattle.text.specs.Text.{padded}
 use Rattle.text.specs.Number.{byteHex, hexOf}
 
 abbrev pub direct : ℕ → List ℕ

@@ -4,7 +4,7 @@
 use Prim.Native.Nat.{ℕ}
 use mathlib.Core.List.{List, _++_}
 use Rattle.commands.specs.declared.command.Claim.{Claim}
-use Rattle.text.specs.Text.{ascii}
+use Rattle.lists.specs.Ascii.{ascii}
 use Rattle.text.specs.declared.step.Traced.{Traced}
 use Rattle.text.specs.Line.{fieldText, pairText}
 use Rattle.text.specs.Columns.{listingText, registersText}

@@ -6,7 +6,7 @@ use mathlib.Core.Bool.{cond}
 use mathlib.Core.List.{List, [], _++_}
 use lib.Dec.{eqb, ltb}
 use Rattle.text.specs.declared.listing.Listing.{Listing}
-use Rattle.text.specs.Text.{ascii}
+use Rattle.lists.specs.Ascii.{ascii}
 use Rattle.text.specs.declared.summary.Visits.{Visits}
 use Rattle.text.specs.Line.{fieldText}
 use Rattle.text.specs.Columns.{listingText}

@@ -2,7 +2,7 @@
 ghost use mathlib.Core.Path.{_≡_};
 ghost use Prim.Native.Nat.{_+_, _≤_, _<_};
 ghost use lib.ListN.{length};
-ghost use Rattle.lists.specs.inner.Splice.{spliced};
+ghost use Rattle.lists.specs.Splice.{spliced};
 ghost use Rattle.text.specs.Number.{glyphOf, byteHex, hexOf, decimalOf};
 
 // Bytes at an offset of the output; the offset after them.

@@ -1,7 +1,7 @@
 // An operand, padded with spaces to 17 bytes: a pattern for each mode, with digits in it.
 ghost use mathlib.Core.Path.{_≡_};
 ghost use Prim.Native.Nat.{_+_, _≤_};
-ghost use Rattle.lists.specs.inner.Splice.{spliced};
+ghost use Rattle.lists.specs.Splice.{spliced};
 ghost use Rattle.text.specs.Number.{byteHex, hexOf};
 ghost use Rattle.text.specs.Operand.{operandText};
 use crate::number::hex2;

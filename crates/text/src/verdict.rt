@@ -2,7 +2,7 @@
 ghost use mathlib.Core.Path.{_≡_};
 ghost use Prim.Native.Nat.{_≤_};
 ghost use lib.ListN.{length};
-ghost use Rattle.lists.specs.inner.Splice.{spliced};
+ghost use Rattle.lists.specs.Splice.{spliced};
 ghost use Rattle.text.specs.Verdict.{acceptLine, refuseLine, lineOf};
 use crate::number::put_decimal;
 use crate::number::put_hex;

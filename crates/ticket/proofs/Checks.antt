@@ -26,7 +26,7 @@ use Rattle.ticket.specs.declared.answer.Written.the-variants as Written
 use Rattle.ticket.specs.Fields.{Fields, blankMark, markIndex, listed}
 use Rattle.ticket.specs.Write.{commandsAt, markCommands, commandsOf, encodeAll, bytesOf, allThen}
 use Rattle.ticket.specs.Write.{checkOf, writeOf, outputOf}
-use Rattle.lists.specs.inner.Splice.{spliced}
+use Rattle.lists.specs.Splice.{spliced}
 use Rattle.ticket.proofs.Stage.{by-admission}
 use Rattle.ticket.proofs.Snoc.{commands-snoc}
 use Rattle.ticket.proofs.ReadWritten.{refused-stays}

@@ -8,16 +8,16 @@ use mathlib.Core.List.{List, [], _∷_}
 use lib.ListN.{length, drop}
 use Rattle.commands.specs.declared.command.Command.{Command}
 use Rattle.answers.specs.declared.Refusal.{Refusal}
-use Rattle.commands.specs.declared.parse.Parsed.the-variants.{Found}
+use Rattle.commands.specs.declared.parse.ParsedCommand.the-variants.{Found}
 use Rattle.commands.specs.declared.progress.Progress.{Progress}
 use Rattle.commands.specs.Bytes.{parseOf, widthOf}
 use Rattle.commands.specs.Cause.{commandCauseOf}
 use Rattle.commands.specs.Progress.{initialProgress, afterOf, ended}
 use Rattle.ticket.specs.declared.fields.Mark.{Mark}
-use Rattle.ticket.specs.declared.reader.Turn.{Turn}
-use Rattle.ticket.specs.declared.reader.Turn.the-variants as Turn
+use Rattle.ticket.specs.declared.reader.NextCommand.{NextCommand}
+use Rattle.ticket.specs.declared.reader.NextCommand.the-variants as NextCommand
 use Rattle.ticket.specs.Fields.{Fields, read, refused, marksWith, inFileOrder}
-use Rattle.ticket.specs.Read.{nextCommandOf, endOf, Rest, readOnward, ifEnded, readFrom, readOf}
+use Rattle.ticket.specs.Read.{nextCommandOf, endOf, ReadRest, readOnward, ifEnded, readFrom, readOf}
 use Rattle.ticket.proofs.Turned.{turned}
 
 -- from progress and its marks, over some bytes, by some commands, to the fields
@@ -35,7 +35,7 @@ unread : {r : Refusal} {f : Fields} → refused r ≡ read f → ⊥
 unread e = let z : _≡_ {A = ℕ} 0 1 = cc in omega arith
 
 -- one turn, with what is known of the rest
-module _ (p : Progress) (ms : List Mark) (f : Fields) (rest : Rest)
+module _ (p : Progress) (ms : List Mark) (f : Fields) (rest : ReadRest)
     (known : (q : Progress) (ks : List Mark) (t : List ℕ) → rest q ks t ≡ read f → Commanded q ks t f) where
   at-end : ended p ≡ true → (s : List ℕ) → endOf p ms s ≡ read f → Commanded p ms s f
   at-end e [] r =
@@ -44,9 +44,9 @@ module _ (p : Progress) (ms : List Mark) (f : Fields) (rest : Rest)
   at-end e (b ∷ s) r = absurd (unread r)
 
   module _ (s : List ℕ) where
-    at-command : (t : Turn) → nextCommandOf s p ≡ t → readOnward t ms s rest ≡ read f → Commanded p ms s f
-    at-command (Turn.Refused x) e r = absurd (unread r)
-    at-command (Turn.Next q c) e r =
+    at-command : (t : NextCommand) → nextCommandOf s p ≡ t → readOnward t ms s rest ≡ read f → Commanded p ms s f
+    at-command (NextCommand.Refused x) e r = absurd (unread r)
+    at-command (NextCommand.Next q c) e r =
         let t = turned s p q c e in
         let k = known (afterOf p c) (marksWith ms c) (drop (widthOf c) s) (rw (t .next) at r) in
         (c ∷ k .0, goes (t .found) (t .free) (k .1))

@@ -9,7 +9,7 @@ pub mod Listed
 pub mod SoFar
 pub mod Turned
 pub mod Course
-pub mod Slots
+pub mod MarkArray
 pub mod ReadLoop
 pub mod Checks
 pub mod Free

@@ -9,10 +9,11 @@ use lib.Seq.{take-suc, take-append-seam}
 use borrow.Author.Tests.{lt-ltb}
 use Rattle.ticket.specs.declared.fields.Mark.{Mark}
 use Rattle.ticket.specs.declared.fields.Ticket.{Ticket}
-use Rattle.ticket.specs.declared.answer.Answer.{Answer}
-use Rattle.ticket.specs.declared.answer.Answer.the-variants as Answer
+use Rattle.ticket.specs.declared.answer.ReadAnswer.{ReadAnswer}
+use Rattle.ticket.specs.declared.answer.ReadAnswer.the-variants as ReadAnswer
 use Rattle.ticket.specs.declared.answer.Reading.{Reading}
-use Rattle.ticket.specs.Fields.{Fields, Outcome, read, refused, blankMark, listed, ticketOf, fieldsOf, readingOf}
+use Rattle.ticket.specs.Fields.{Fields, ReadOutcome, read, refused, blankMark, listed, ticketOf}
+use Rattle.ticket.specs.Fields.{fieldsOf, readingOf}
 
 pub listed-take : (ms : List Mark) (n : ℕ) → n ≤ 4096 → n ≤ length ms → listed ms n ≡ take n ms
 listed-take ms zero few room = refl
@@ -30,16 +31,16 @@ fields-ticket f few =
 abbrev fieldsFrom : Ticket → Fields
 fieldsFrom t = record { header = t .header; marks = take (t .count) (t .marks) }
 
-abbrev outcomeFrom : Answer → Ticket → Outcome
-outcomeFrom Answer.Read t = read (fieldsFrom t)
-outcomeFrom (Answer.Refused r) t = refused r
+abbrev outcomeFrom : ReadAnswer → Ticket → ReadOutcome
+outcomeFrom ReadAnswer.Read t = read (fieldsFrom t)
+outcomeFrom (ReadAnswer.Refused r) t = refused r
 
-outcome-back : (o : Outcome) → let r = readingOf o in outcomeFrom (r .answer) (r .ticket) ≡ o
+outcome-back : (o : ReadOutcome) → let r = readingOf o in outcomeFrom (r .answer) (r .ticket) ≡ o
 unfolding ticketOf
 outcome-back (read f) =
     rw (take-append-seam (f .marks) (replicate (4096 - length (f .marks)) blankMark))
 outcome-back (refused r) = refl
 
-pub readings-apart : (a b : Outcome) → readingOf a ≡ readingOf b → a ≡ b
+pub readings-apart : (a b : ReadOutcome) → readingOf a ≡ readingOf b → a ≡ b
 readings-apart a b e =
     sym (outcome-back a) ∙ ap (λ (r : Reading). outcomeFrom (r .answer) (r .ticket)) e ∙ outcome-back b

@@ -54,7 +54,8 @@ module _ (t : Ticket) where
       ∙ (ap (λ (s : List ℕ). header ++ s) tail ∙ sym (append-assoc header (encodeAll cs) (encodeOf Command.End)))
 
   -- after i of the marks there is room for the end
-  pub end-room : (i : ℕ) → i ≤ t .count → headerSize (t .header) + length (marksBytes (t .marks) i) + 1 ≤ length (bytesOf (fieldsOf t))
+  pub end-room : (i : ℕ) → i ≤ t .count →
+      headerSize (t .header) + length (marksBytes (t .marks) i) + 1 ≤ length (bytesOf (fieldsOf t))
   end-room i h =
       let longer = rw (add-sub-of-le h) at (marks-longer (t .marks) i (t .count - i)) in
       let header = encodeAll (headerCommands (t .header)) in
@@ -69,7 +70,8 @@ module _ (t : Ticket) where
 
   -- and for one mark more, if there is one
   pub mark-room : (i : ℕ) {j : ℕ} → j ≡ markIndex i → i < t .count →
-      headerSize (t .header) + length (marksBytes (t .marks) i) + length (encodeAll (commandsAt (getD (t .marks) j blankMark)))
+      headerSize (t .header) + length (marksBytes (t .marks) i) +
+      length (encodeAll (commandsAt (getD (t .marks) j blankMark)))
       ≤ length (bytesOf (fieldsOf t))
   mark-room i {j} e h =
       omega (

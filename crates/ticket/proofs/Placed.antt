@@ -7,7 +7,7 @@ use lib.ListN.{length}
 use Rattle.commands.specs.declared.command.Command.{Command}
 use Rattle.commands.specs.Bytes.{encodeOf, widthOf}
 use Rattle.commands.proofs.Coding.{length-encode}
-use Rattle.lists.specs.inner.Splice.{spliced}
+use Rattle.lists.specs.Splice.{spliced}
 use Rattle.lists.proofs.Splice.{Placed, placed-next}
 
 module _ {old : List ℕ} {at : ℕ} {a x y : List ℕ} {n m : ℕ} (p : Placed old at a x n) (room : m ≤ length old) where

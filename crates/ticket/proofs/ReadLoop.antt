@@ -11,7 +11,7 @@ use lib.ListN.{length, getD, set, drop, replicate, length-drop, drop-of-length-l
 use lib.Seq.{drop-drop, drop-cons}
 use Rattle.commands.specs.declared.command.Command.{Command}
 use Rattle.answers.specs.declared.Refusal.{Refusal}
-use Rattle.commands.specs.declared.parse.Parsed.the-variants.{Found}
+use Rattle.commands.specs.declared.parse.ParsedCommand.the-variants.{Found}
 use Rattle.commands.specs.declared.progress.Progress.{Progress}
 use Rattle.commands.specs.Bytes.{parseOf, widthOf}
 use Rattle.commands.specs.Cause.{commandCauseOf}
@@ -19,13 +19,13 @@ use Rattle.commands.specs.Progress.{initialProgress, afterOf, ended}
 use Rattle.commands.proofs.Causes.{allowed}
 use Rattle.commands.proofs.Coding.{parse-room, width-positive, after-at}
 use Rattle.commands.proofs.Sound.{bounds}
-use Rattle.ticket.specs.declared.answer.Answer.the-variants as Answer
+use Rattle.ticket.specs.declared.answer.ReadAnswer.the-variants as ReadAnswer
 use Rattle.ticket.specs.declared.fields.Mark.{Mark}
-use Rattle.ticket.specs.declared.reader.Turn.the-variants as Turn
+use Rattle.ticket.specs.declared.reader.NextCommand.the-variants as NextCommand
 use Rattle.ticket.specs.Fields.{refused, blankMark, marksWith, inFileOrder, ticketOf, readingOf}
 use Rattle.ticket.specs.inner.Entered.{enteredOf}
 use Rattle.ticket.specs.Read.{refusal, nextCommandOf, endOf, readOnward, ifEnded, readFrom, readOf}
-use Rattle.ticket.proofs.Slots.{filled, entered}
+use Rattle.ticket.proofs.MarkArray.{filled, entered}
 use Rattle.ticket.proofs.SoFar.{Consistent, consistent-start, consistent-next, length-ordered}
 use Rattle.ticket.proofs.Turned.{turned}
 
@@ -67,7 +67,8 @@ module _ (s : List ℕ) (array : List Mark) (p : Progress) (h : ReadState s arra
         (readFrom (h .left - 1))
     read-on = simp go at turn
 
-    pub reading-refused : (r : Refusal) → nextCommandOf (drop (p .at) s) p ≡ Turn.Refused r → readOf s ≡ refused r
+    pub reading-refused : (r : Refusal) → nextCommandOf (drop (p .at) s) p ≡ NextCommand.Refused r →
+        readOf s ≡ refused r
     reading-refused r e = rw e at read-on
 
     module _ (c : Command) (found : parseOf (drop (p .at) s) ≡ Found c) where
@@ -82,7 +83,7 @@ module _ (s : List ℕ) (array : List Mark) (p : Progress) (h : ReadState s arra
           )
 
       reached-after : (d : Mark) → commandCauseOf p c ≡ 0 → nextCommandOf (drop (p .at) s) p
-          ≡ Turn.Next (afterOf p c) c → ReadState s (set array (afterOf p c .count - 1)
+          ≡ NextCommand.Next (afterOf p c) c → ReadState s (set array (afterOf p c .count - 1)
           (enteredOf (getD array (afterOf p c .count - 1) d) c)) (afterOf p c)
       reached-after d free e =
           let next = consistent-next p (h .marks) (h .kept) c free in
@@ -100,7 +101,7 @@ module _ (s : List ℕ) (array : List Mark) (p : Progress) (h : ReadState s arra
                 (bounds (next .sound) .0));
           }
 
-    module _ (q : Progress) (c : Command) (e : nextCommandOf (drop (p .at) s) p ≡ Turn.Next q c) where
+    module _ (q : Progress) (c : Command) (e : nextCommandOf (drop (p .at) s) p ≡ NextCommand.Next q c) where
       pub reached-next : (d : Mark) → ReadState s (set array (q .count - 1) (enteredOf (getD array (q .count - 1) d) c))
           q
       reached-next d =
@@ -122,7 +123,7 @@ module _ (s : List ℕ) (array : List Mark) (p : Progress) (h : ReadState s arra
     reading-long l = rw (drop-cons s (p .at) 0) at at-end
 
     pub reading-done : length s ≤ p .at → record {
-      answer = Answer.Read;
+      answer = ReadAnswer.Read;
       ticket = record { header = p .header; count = p .count; marks = array };
     } ≡ readingOf (readOf s)
     unfolding ticketOf filled

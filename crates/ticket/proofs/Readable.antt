@@ -3,7 +3,7 @@
 use Prim.Native.Nat.{ℕ, _+_, _≤_, _<_}
 use mathlib.Core.Path.{_≡_, refl}
 use mathlib.Core.Logic.{_↔_}
-use mathlib.Core.Bool.{true, false, and-eq-true-iff}
+use mathlib.Core.Bool.{true, and-eq-true-iff}
 use mathlib.Core.List.{List, [], _∷_, _++_}
 use native.Mathlib.Omega.{arith}
 use Rattle.commands.specs.declared.command.Claim.{Claim}
@@ -90,7 +90,8 @@ text-of (text r) = r
 
 -- what comes after a mark and its name depends on the header, how many marks there are and the last address
 module _ (p : Progress) (e : p .stage ≡ headerLength) (a : ℕ) (cs ds : List Command) (R : Header → ℕ → ℕ →
-    Type 0) (rest : (q : Progress) → q .stage ≡ headerLength → Free q (cs ++ ds) ↔ R (q .header) (q .count) (q .last)) where
+    Type 0) (rest : (q : Progress) → q .stage ≡ headerLength →
+    Free q (cs ++ ds) ↔ R (q .header) (q .count) (q .last)) where
   name-says : (w : ℕ) (n : Name) → Free (markedOf p w a) ((nameCommands a n ++ cs) ++ ds) ↔ (NameRule n
       × R (p .header) (p .count + 1) a)
   unfolding afterOf

@@ -3,11 +3,11 @@
 use Prim.Native.Nat.{ℕ, _≤_, _<_, max}
 use mathlib.Core.Path.{_≡_, refl}
 use mathlib.Core.Logic.{_↔_}
-use mathlib.Core.Bool.{Bool, true, false, not, _||_, true≢false, false≢true, not-eq-not, and-eq-true-iff}
+use mathlib.Core.Bool.{Bool, true, false, _||_, true≢false, false≢true, not-eq-not, and-eq-true-iff}
 use mathlib.Core.List.{List, [], _∷_}
 use native.Mathlib.Omega.{arith}
 use lib.Dec.{eqb, ltb, leb}
-use borrow.Author.Tests.{ltb-true, ltb-false, leb-true, leb-false, not-true, eqb-true, eqb-false, lt-ltb, le-leb}
+use borrow.Author.Tests.{ltb-true, ltb-false, leb-true, leb-false, eqb-true, eqb-false, lt-ltb, le-leb}
 use borrow.Author.Tests.{lt-leb, eq-eqb, ne-eqb}
 use Rattle.commands.specs.declared.header.Window.{Window}
 use Rattle.commands.specs.Rows.{printable}

@@ -72,11 +72,13 @@ module _ (p : Progress) where
       → soFar (stagedOf p n (headerWith (p .header) c)) ms ≡ soFar p ms ++ (Command.Header c ∷ [])
   said-header ms k c n e =
       let l = header-law (p .header) c in
-      rw (no-marks ms k (omega (arith, l .early)), e) (one-more (placeOf (Command.Header c)) (headerCommands (p .header))
-      (headerCommands (headerWith (p .header) c)) (Command.Header c) (l .early) (l .stated))
+      rw (no-marks ms k (omega (arith, l .early)), e)
+      (one-more (placeOf (Command.Header c)) (headerCommands (p .header)) (headerCommands (headerWith (p .header) c))
+      (Command.Header c) (l .early) (l .stated))
 
   -- the latest mark has no name yet, and the name's address is its own
-  said-name : (ms : List Mark) → Consistent p ms → (a t n : ℕ) → p .stage ≡ headerLength → p .nameable ≡ true → a ≡ p .last
+  said-name : (ms : List Mark) → Consistent p ms → (a t n : ℕ) → p .stage ≡ headerLength → p .nameable ≡ true
+      → a ≡ p .last
       → soFar (namedOf p n) (marksWith ms (Command.Name a t)) ≡ soFar p ms ++ (Command.Name a t ∷ [])
   said-name [] k a t n e can l = absurd (omega (arith, k .sound .named can))
   said-name (m ∷ ms) k a t n e can l =

@@ -17,7 +17,7 @@ use Rattle.commands.specs.Admit.{admitOf}
 use Rattle.commands.specs.Fits.{Fits}
 use Rattle.commands.proofs.Coding.{length-encode, parse-encode}
 use Rattle.ticket.specs.declared.fields.Mark.{Mark}
-use Rattle.ticket.specs.Fields.{Outcome, refused, marksWith}
+use Rattle.ticket.specs.Fields.{ReadOutcome, refused, marksWith}
 use Rattle.ticket.specs.Read.{admittedAs, readOnward, nextCommandOf, readFrom}
 use Rattle.ticket.proofs.Stage.{by-admission}
 
@@ -30,7 +30,7 @@ module _ (n : ℕ) (p : Progress) (ms : List Mark) (c : Command) (s : List ℕ) 
 
   -- to show that the reading answers k of the admission: k of a refusal is that refusal, and what is left is read as k
   -- says
-  pub step : ended p ≡ false → Fits c → (k : Admitted → Outcome) →
+  pub step : ended p ≡ false → Fits c → (k : Admitted → ReadOutcome) →
       ((r : Refusal) → refused r ≡ k (Refused r)) → (inOrder p c ≡ true →
       readFrom n (afterOf p c) (marksWith ms c) s ≡ k (Next (afterOf p c))) →
       readFrom (suc n) p ms (encodeOf c ++ s) ≡ k (admitOf p c)

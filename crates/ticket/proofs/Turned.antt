@@ -8,15 +8,15 @@ use lib.Dec.{eqb}
 use borrow.Author.Tests.{eqb-true}
 use Rattle.commands.specs.declared.command.Command.{Command}
 use Rattle.answers.specs.declared.Refusal.{Refusal}
-use Rattle.commands.specs.declared.parse.Parsed.{Parsed}
-use Rattle.commands.specs.declared.parse.Parsed.the-variants.{Unknown, Cut, Found}
+use Rattle.commands.specs.declared.parse.ParsedCommand.{ParsedCommand}
+use Rattle.commands.specs.declared.parse.ParsedCommand.the-variants.{Unknown, Cut, Found}
 use Rattle.commands.specs.declared.progress.Progress.{Progress}
 use Rattle.commands.specs.declared.admit.Admitted.the-variants.{Refused, Next}
 use Rattle.commands.specs.Admit.{admitOf}
 use Rattle.commands.specs.Bytes.{parseOf}
 use Rattle.commands.specs.Cause.{commandCauseOf}
 use Rattle.commands.specs.Progress.{afterOf}
-use Rattle.ticket.specs.declared.reader.Turn.the-variants as Turn
+use Rattle.ticket.specs.declared.reader.NextCommand.the-variants as NextCommand
 use Rattle.ticket.specs.Read.{admittedAs, parsedAs, nextCommandOf}
 
 pub record Turned (s : List ℕ) (p q : Progress) (c : Command) : Type 0 where
@@ -26,18 +26,18 @@ pub record Turned (s : List ℕ) (p q : Progress) (c : Command) : Type 0 where
 
 module _ (s : List ℕ) (p q : Progress) (c : Command) where
   by-cause : (d : Command) (r : Refusal) → parseOf s ≡ Found d → (b : Bool) → eqb (commandCauseOf p d) 0 ≡ b
-      → admittedAs (cond b (Next (afterOf p d)) (Refused r)) d ≡ Turn.Next q c → Turned s p q c
+      → admittedAs (cond b (Next (afterOf p d)) (Refused r)) d ≡ NextCommand.Next q c → Turned s p q c
   by-cause d r f true e t =
       let z = eqb-true (commandCauseOf p d) 0 e in
       record { found = cc; free = cc; next = cc }
   by-cause d r f false e t = record { found = cc; free = cc; next = cc }
 
-  by-parsed : (d : Parsed) → parseOf s ≡ d → parsedAs d p ≡ Turn.Next q c → Turned s p q c
+  by-parsed : (d : ParsedCommand) → parseOf s ≡ d → parsedAs d p ≡ NextCommand.Next q c → Turned s p q c
   unfolding admitOf
   by-parsed Unknown e t = record { found = cc; free = cc; next = cc }
   by-parsed Cut e t = record { found = cc; free = cc; next = cc }
   by-parsed (Found d) e t = by-cause d _ e _ refl t
 
-  pub turned : nextCommandOf s p ≡ Turn.Next q c → Turned s p q c
+  pub turned : nextCommandOf s p ≡ NextCommand.Next q c → Turned s p q c
   unfolding nextCommandOf
   turned t = by-parsed _ refl t

@@ -20,7 +20,7 @@ use Rattle.commands.proofs.Digits.{bytes-drop}
 use Rattle.commands.proofs.Sound.{bounds}
 use Rattle.ticket.specs.declared.fields.Mark.{Mark}
 use Rattle.ticket.specs.declared.answer.Reading.{Reading}
-use Rattle.ticket.specs.Fields.{Fields, Outcome, read, refused, readingOf}
+use Rattle.ticket.specs.Fields.{Fields, ReadOutcome, read, refused, readingOf}
 use Rattle.ticket.specs.Read.{readOf}
 use Rattle.ticket.specs.Write.{commandsOf, encodeAll, bytesOf, checkOf, writeOf, outputOf}
 use Rattle.ticket.specs.RoundTrip.{AllFit, FitsFields, SameBytes}
@@ -76,7 +76,7 @@ pub fits-read : (s : List ℕ) (f : Fields) → AllBytes s → readOf s ≡ read
 fits-read s f a r = rw (← same-commands s f r) (fit (course s f r .1) a)
 
 module _ (s : List ℕ) (a : AllBytes s) where
-  same-read : (o : Outcome) → readOf s ≡ o → SameBytes s (readingOf o)
+  same-read : (o : ReadOutcome) → readOf s ≡ o → SameBytes s (readingOf o)
   unfolding outputOf writeOf
   same-read (read f) e q out room =
       simp (fields-ticket f (few s f e), checks s f e .1, written-read s f a e, le-leb _ _ room) (refl, refl)

@@ -16,8 +16,8 @@ use Rattle.ticket.specs.declared.fields.Name.{Name}
 use Rattle.ticket.specs.declared.fields.Name.the-variants.{Absent, Text}
 use Rattle.ticket.specs.declared.fields.Mark.{Mark}
 use Rattle.ticket.specs.declared.fields.Ticket.{Ticket}
-use Rattle.ticket.specs.declared.answer.Answer.{Answer}
-use Rattle.ticket.specs.declared.answer.Answer.the-variants as Answer
+use Rattle.ticket.specs.declared.answer.ReadAnswer.{ReadAnswer}
+use Rattle.ticket.specs.declared.answer.ReadAnswer.the-variants as ReadAnswer
 use Rattle.ticket.specs.declared.answer.Reading.{Reading}
 
 pub record Fields : Type 0 where
@@ -25,9 +25,9 @@ pub record Fields : Type 0 where
   pub marks : List Mark
 
 -- of reading: the fields, or a refusal's number and place
-pub data Outcome : Type 0 where
-  read : Fields → Outcome
-  refused : Refusal → Outcome
+pub data ReadOutcome : Type 0 where
+  read : Fields → ReadOutcome
+  refused : Refusal → ReadOutcome
 
 abbrev pub unnamed : ℕ → Claim → Mark
 unnamed a k = record { address = a; claim = k; name = Absent }
@@ -67,9 +67,9 @@ ticketOf f =
 abbrev pub noFields : Fields
 noFields = record { header = blankHeader; marks = [] }
 
-abbrev pub readingOf : Outcome → Reading
-readingOf (read f) = record { answer = Answer.Read; ticket = ticketOf f }
-readingOf (refused r) = record { answer = Answer.Refused r; ticket = ticketOf noFields }
+abbrev pub readingOf : ReadOutcome → Reading
+readingOf (read f) = record { answer = ReadAnswer.Read; ticket = ticketOf f }
+readingOf (refused r) = record { answer = ReadAnswer.Refused r; ticket = ticketOf noFields }
 
 -- Where entry i of the marks stands. Document 01 leaves a count above 4,096 free: past the array's end its last entry
 -- stands again, so that the writer refuses the 4,097th mark with 3, as one that does not rise.

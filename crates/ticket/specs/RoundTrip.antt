@@ -9,10 +9,10 @@ use Rattle.commands.specs.declared.admit.Admitted.{Admitted}
 use Rattle.commands.specs.declared.admit.Admitted.the-variants.{Refused, Next}
 use Rattle.commands.specs.Every.{Every}
 use Rattle.commands.specs.Fits.{Fits}
-use Rattle.ticket.specs.declared.answer.Answer.the-variants.{Read}
+use Rattle.ticket.specs.declared.answer.ReadAnswer.the-variants.{Read}
 use Rattle.ticket.specs.declared.answer.Reading.{Reading}
 use Rattle.ticket.specs.declared.answer.Written.the-variants.{Length}
-use Rattle.ticket.specs.Fields.{Fields, Outcome, read, refused, fieldsOf}
+use Rattle.ticket.specs.Fields.{Fields, ReadOutcome, read, refused, fieldsOf}
 use Rattle.ticket.specs.Write.{commandsOf, writeOf, outputOf}
 
 -- every operand fits its width, as in every value of the code's types
@@ -23,7 +23,7 @@ abbrev pub FitsFields : Fields → Type 0
 FitsFields f = AllFit (commandsOf f)
 
 -- what reading a ticket's bytes answers, by the writer's checks: the same fields, or the same number and place
-abbrev pub answered : Admitted → Fields → Outcome
+abbrev pub answered : Admitted → Fields → ReadOutcome
 answered (Refused r) f = refused r
 answered (Next p) f = read f
 

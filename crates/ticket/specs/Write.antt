@@ -1,11 +1,11 @@
 -- The bytes of a ticket, and what the writer answers: 3 to 7 on the fields first, with the offset that the command
 -- would have, then 24 with the bytes needed (document 01, "The ticket", "Where a ticket stops").
 -- Assumes nothing.
-use Prim.Native.Nat.{ℕ, _+_}
+use Prim.Native.Nat.{ℕ}
 use mathlib.Core.Bool.{cond}
 use mathlib.Core.List.{List, [], _∷_, _++_}
 use lib.Dec.{leb}
-use lib.ListN.{length, take, drop}
+use lib.ListN.{length, drop}
 use Rattle.commands.specs.declared.command.Command.{Command}
 use Rattle.commands.specs.declared.command.Command.the-variants as Command
 use Rattle.commands.specs.declared.admit.Admitted.{Admitted}

@@ -2,14 +2,14 @@
 use crate::fields::Ticket;
 use answers::Refusal;
 
-pub enum Answer {
+pub enum ReadAnswer {
     Read,
     Refused(Refusal),
 }
 
 // No enum holds an array, so the ticket stands beside the answer; it is blank where the bytes are refused.
 pub struct Reading {
-    pub answer: Answer,
+    pub answer: ReadAnswer,
     pub ticket: Ticket,
 }
 

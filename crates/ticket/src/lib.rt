@@ -7,12 +7,12 @@ ghost use Rattle.ticket.specs.Write.{bytesOf, checkOf, writeOf, outputOf
 ghost use Rattle.ticket.specs.Rules.{ReadByTheRules};
 ghost use Rattle.ticket.specs.Fields.{fieldsOf, readingOf};
 ghost use Rattle.ticket.specs.RoundTrip.{answered, SameBytes};
-use crate::answer::Answer;
+use crate::answer::ReadAnswer;
 use crate::answer::Reading;
 use crate::answer::Written;
 use crate::fields::Ticket;
 use crate::fields::blank;
-use crate::reader::Turn;
+use crate::reader::NextCommand;
 use crate::reader::entered;
 use crate::reader::latest_index;
 use crate::reader::next_command;
@@ -39,8 +39,8 @@ pub fn read(bytes: &[u8]) -> Reading
     let mut p = initial();
     while !ended(p) {
         match next_command(bytes, p) {
-            Turn::Refused(r) => return refused(r),
-            Turn::Next(q, c) => {
+            NextCommand::Refused(r) => return refused(r),
+            NextCommand::Next(q, c) => {
                 let i = latest_index(q.count);
                 let m = marks[i];
                 marks[i] = entered(m, c);
@@ -53,7 +53,7 @@ pub fn read(bytes: &[u8]) -> Reading
     }
     let header = p.header;
     Reading {
-        answer: Answer::Read,
+        answer: ReadAnswer::Read,
         ticket: Ticket {
             header,
             count: p.count,

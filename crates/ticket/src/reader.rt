@@ -4,10 +4,10 @@ ghost use mathlib.Core.Path.{_≡_};
 ghost use Prim.Native.Nat.{_-_, _≤_};
 ghost use lib.ListN.{length, drop};
 ghost use Rattle.commands.specs.inner.Sound.{Sound};
-ghost use Rattle.ticket.specs.Fields.{Outcome, readingOf};
+ghost use Rattle.ticket.specs.Fields.{ReadOutcome, readingOf};
 ghost use Rattle.ticket.specs.inner.Entered.{enteredOf};
 ghost use Rattle.ticket.specs.Read.{nextCommandOf};
-use crate::answer::Answer;
+use crate::answer::ReadAnswer;
 use crate::answer::Reading;
 use crate::fields::Mark;
 use crate::fields::Name;
@@ -19,28 +19,28 @@ use commands::admit::Admitted;
 use commands::admit::admit;
 use commands::command::Command;
 use commands::header::Header;
-use commands::parse::Parsed;
+use commands::parse::ParsedCommand;
 use commands::parse::parse;
 use commands::progress::Progress;
 
 // A command that is refused, or one that is read, with what it leaves for the next.
-pub enum Turn {
+pub enum NextCommand {
     Refused(Refusal),
     Next(Progress, Command),
 }
 
 // The next command of a ticket.
-pub fn next_command(bytes: &[u8], p: Progress) -> Turn
+pub fn next_command(bytes: &[u8], p: Progress) -> NextCommand
     requires { ⌜ Sound p × (p .at ≤ length (now bytes)) ⌝ }
     ensures { λ r. ⌜ r ≡ nextCommandOf (drop (p .at) (now (bytes .entry))) p ⌝ }
 {
     let at = p.at as usize;
     match parse(&bytes[at..]) {
-        Parsed::Unknown => Turn::Refused(refuse(1, p.at)),
-        Parsed::Cut => Turn::Refused(refuse(2, p.at)),
-        Parsed::Found(c) => match admit(p, c) {
-            Admitted::Refused(r) => Turn::Refused(r),
-            Admitted::Next(q) => Turn::Next(q, c),
+        ParsedCommand::Unknown => NextCommand::Refused(refuse(1, p.at)),
+        ParsedCommand::Cut => NextCommand::Refused(refuse(2, p.at)),
+        ParsedCommand::Found(c) => match admit(p, c) {
+            Admitted::Refused(r) => NextCommand::Refused(r),
+            Admitted::Next(q) => NextCommand::Next(q, c),
         },
     }
 }
@@ -76,10 +76,10 @@ pub fn entered(m: Mark, c: Command) -> Mark
 }
 
 pub fn refused(r: Refusal) -> Reading
-    ensures { λ q. ⌜ q ≡ readingOf (Outcome.refused r) ⌝ }
+    ensures { λ q. ⌜ q ≡ readingOf (ReadOutcome.refused r) ⌝ }
 {
     Reading {
-        answer: Answer::Refused(r),
+        answer: ReadAnswer::Refused(r),
         ticket: Ticket {
             header: Header::BLANK,
             count: 0,

@@ -8,7 +8,7 @@ ghost use Rattle.commands.specs.Header.{headerCommands};
 ghost use Rattle.commands.specs.Progress.{initialProgress};
 ghost use Rattle.ticket.specs.Fields.{fieldsOf, markIndex};
 ghost use Rattle.ticket.specs.Write.{commandsAt, allThen, encodeAll, bytesOf, checkOf};
-ghost use Rattle.lists.specs.inner.Splice.{spliced};
+ghost use Rattle.lists.specs.Splice.{spliced};
 ghost use Rattle.ticket.specs.RoundTrip.{AllFit, FitsFields};
 use crate::fields::Mark;
 use crate::fields::Name;

@@ -4,7 +4,7 @@ use crate::print::refusal;
 use check::same;
 use output::decimal;
 use output::text;
-use ticket::answer::Answer;
+use ticket::answer::ReadAnswer;
 use ticket::answer::Written;
 use ticket::fields::Ticket;
 use ticket::read;
@@ -35,8 +35,8 @@ fn answered(bytes: &[u8]) {
     let answer = r.answer;
     let t = r.ticket;
     match answer {
-        Answer::Refused(x) => refusal(x),
-        Answer::Read => {
+        ReadAnswer::Refused(x) => refusal(x),
+        ReadAnswer::Read => {
             text(b"read, ");
             decimal(t.count as u64);
             if again(t, bytes) {

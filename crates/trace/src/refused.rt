@@ -8,7 +8,7 @@ use libc::STDOUT_FILENO;
 use text::listing::list;
 use text::place::put_place;
 use text::verdict::put_verdict;
-use ticket::answer::Answer;
+use ticket::answer::ReadAnswer;
 use ticket::read;
 
 // The byte at an index of the image; past its end there are zeros, as the checks have it.
@@ -54,8 +54,8 @@ pub fn refused(x: Refusal, ticket: &[u8], image: &[u8]) {
     let reading = read(ticket);
     let answer = reading.answer;
     match answer {
-        Answer::Refused(_) => {}
-        Answer::Read => {
+        ReadAnswer::Refused(_) => {}
+        ReadAnswer::Read => {
             let t = reading.ticket;
             let h = t.header;
             let code = h.code;

@@ -18,29 +18,29 @@ use Rattle.vectors.specs.declared.comparison.Comparison.{Comparison}
 abbrev pub Counted : List ℕ → Counts → Counts → Type 0
 Counted s c c′ = (v : Comparison) × Compared s v × (c′ ≡ countedOf c (kindIn s) v)
 
-pub record Reading : Type 0 where
+pub record LineReading : Type 0 where
   pub line : List ℕ
   pub counts : Counts
 
-abbrev pub reading : List ℕ → Counts → Reading
+abbrev pub reading : List ℕ → Counts → LineReading
 reading l c = record { line = l; counts = c }
 
 -- what a state and the buffer hold
-abbrev pub held : State → List ℕ → Reading
+abbrev pub held : State → List ℕ → LineReading
 held st buffer = reading (take (st .filled) buffer) (st .counts)
 
 -- one byte more. A line feed ends a line. 256 bytes of a line are kept: no vector is as long, so a longer line is
 -- malformed
-pub data Next : ℕ → Reading → Reading → Type 0 where
+pub data Next : ℕ → LineReading → LineReading → Type 0 where
   ended : {l : List ℕ} {c c′ : Counts} → Counted l c c′ → Next 10 (reading l c) (reading [] c′)
   longer : {b : ℕ} {l : List ℕ} {c : Counts} → (b ≡ 10 → ⊥) → length l < 256 →
       Next b (reading l c) (reading (l ++ (b ∷ [])) c)
   full : {b : ℕ} {l : List ℕ} {c : Counts} → (b ≡ 10 → ⊥) → length l ≡ 256 → Next b (reading l c) (reading l c)
 
 -- a text, from its first byte on
-pub data Reads : List ℕ → Reading → Reading → Type 0 where
-  none : {p : Reading} → Reads [] p p
-  then : {b : ℕ} {t : List ℕ} {p p′ q : Reading} → Next b p p′ → Reads t p′ q → Reads (b ∷ t) p q
+pub data ReadsLines : List ℕ → LineReading → LineReading → Type 0 where
+  none : {p : LineReading} → ReadsLines [] p p
+  then : {b : ℕ} {t : List ℕ} {p p′ q : LineReading} → Next b p p′ → ReadsLines t p′ q → ReadsLines (b ∷ t) p q
 
 -- what a read leaves fits the buffer
 abbrev pub Within : Read → Type 0

@@ -2,7 +2,7 @@
 ghost use mathlib.Core.Path.{_≡_};
 ghost use Prim.Native.Nat.{_≤_};
 ghost use lib.ListN.{length};
-ghost use Rattle.vectors.specs.Text.{Counted, held, Next, Reads, Within};
+ghost use Rattle.vectors.specs.Text.{Counted, held, Next, ReadsLines, Within};
 use crate::comparison::Comparison;
 use crate::comparison::compared;
 use crate::count::Counts;
@@ -83,7 +83,7 @@ fn byte(b: u8, st: State, buffer: &mut [u8], places: &mut [u32; 1024]) -> State
 fn piece(s: &[u8], st: State, buffer: &mut [u8], places: &mut [u32; 1024]) -> State
     requires { ⌜ length (now buffer) ≡ 256 ⌝ }
     requires { ⌜ st .filled ≤ 256 ⌝ }
-    ensures { λ r. ⌜ (r .filled ≤ 256) × Reads (now (s .entry)) (held st (now (buffer .entry)))
+    ensures { λ r. ⌜ (r .filled ≤ 256) × ReadsLines (now (s .entry)) (held st (now (buffer .entry)))
         (held r (now (buffer .exit))) ⌝ }
 {
     let mut q = st;

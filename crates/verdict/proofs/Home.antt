@@ -15,7 +15,7 @@ use Rattle.registers.specs.declared.Registers.{Registers}
 use Rattle.registers.specs.declared.StackBytes.{StackBytes}
 use Rattle.answers.specs.declared.Refusal.{Refusal}
 use Rattle.commands.specs.Number.{AllBytes}
-use Rattle.ticket.specs.Fields.{Fields, Outcome, read, refused}
+use Rattle.ticket.specs.Fields.{Fields, ReadOutcome, read, refused}
 use Rattle.ticket.specs.Read.{refusal, readOf}
 use Rattle.ticket.proofs.Accepts.{read-rules}
 use Rattle.answers.specs.declared.Verdict.{Verdict}
@@ -77,7 +77,7 @@ module _ (ticket image : List ℕ) (bytes : AllBytes ticket) where
   homeward-if f h (Accept e c k) j = start-comes-home f h e c k j
 
   -- by what reading the ticket gives
-  homeward-by : (o : Outcome) → readOf ticket ≡ o → Homeward (certificationBy o image)
+  homeward-by : (o : ReadOutcome) → readOf ticket ≡ o → Homeward (certificationBy o image)
   homeward-by (refused x) h = tt
   homeward-by (read f) h = homeward-if f h (verdictOn f image) refl
 
@@ -92,7 +92,7 @@ module _ (ticket image : List ℕ) (bytes : AllBytes ticket) where
   verdict-if f h (Accept e c k) j =
       let A = accepted f image (read-rules ticket f bytes h .2) e c k j in ap (λ (x : ℕ). Accept x c k) (A .1)
 
-  verdict-by : (o : Outcome) → readOf ticket ≡ o → verdictBy o image ≡ verdictIn (certificationBy o image)
+  verdict-by : (o : ReadOutcome) → readOf ticket ≡ o → verdictBy o image ≡ verdictIn (certificationBy o image)
   verdict-by (refused x) h = refl
   verdict-by (read f) h = verdict-if f h (verdictOn f image) refl
 

@@ -15,13 +15,14 @@ use Rattle.commands.specs.Progress.{initialProgress, afterOf}
 use Rattle.commands.specs.Admit.{admitOf}
 use Rattle.commands.specs.declared.command.Claim.{Claim}
 use Rattle.commands.specs.declared.command.Command.{Command}
-use Rattle.commands.specs.declared.parse.Parsed.{Parsed}
-use Rattle.commands.specs.declared.parse.Parsed.the-variants.{Unknown, Cut, Found}
+use Rattle.commands.specs.declared.parse.ParsedCommand.{ParsedCommand}
+use Rattle.commands.specs.declared.parse.ParsedCommand.the-variants.{Unknown, Cut, Found}
 use Rattle.commands.specs.declared.progress.Progress.{Progress}
 use Rattle.commands.specs.declared.admit.Admitted.the-variants.{Refused, Next}
 use Rattle.ticket.specs.declared.fields.Mark.{Mark}
 use Rattle.ticket.specs.Fields.{Fields}
-use Rattle.ticket.specs.Read.{refusal, admittedAs, parsedAs, nextCommandOf, endOf, Rest, readOnward, ifEnded, readFrom}
+use Rattle.ticket.specs.Read.{refusal, admittedAs, parsedAs, nextCommandOf, endOf, ReadRest, readOnward}
+use Rattle.ticket.specs.Read.{ifEnded, readFrom}
 use Rattle.ticket.specs.Read.{readOf}
 use Rattle.answers.specs.declared.Verdict.{Verdict}
 use Rattle.answers.specs.declared.Verdict.the-variants.{Accept, Refuse}
@@ -83,7 +84,7 @@ end-numbered image p ms [] = verdict-on-numbered _ image
 end-numbered image p ms (b ∷ s) = search arith
 
 -- `left`: whatever is left to do gives such a verdict
-module _ (image : List ℕ) (ms : List Mark) (s : List ℕ) (f : Rest)
+module _ (image : List ℕ) (ms : List Mark) (s : List ℕ) (f : ReadRest)
     (left : (q : Progress) (ks : List Mark) (t : List ℕ) → OneToTwenty (verdictBy (f q ks t) image)) where
   admit-numbered : (p q : Progress) (c : Command) (n : ℕ) → leb n 20 ≡ true
       → OneToTwenty (verdictBy (readOnward (admittedAs (cond (eqb n 0) (Next q) (Refused (refusal n (p .at)))) c) ms s
@@ -91,7 +92,7 @@ module _ (image : List ℕ) (ms : List Mark) (s : List ℕ) (f : Rest)
   admit-numbered p q c zero few = left q _ _
   admit-numbered p q c (suc n) few = rw eqb·suc-zero (omega arith, leb-true (suc n) 20 few)
 
-  turn-numbered : (p : Progress) (d : Parsed) → OneToTwenty (verdictBy (readOnward (parsedAs d p) ms s f) image)
+  turn-numbered : (p : Progress) (d : ParsedCommand) → OneToTwenty (verdictBy (readOnward (parsedAs d p) ms s f) image)
   unfolding admitOf
   turn-numbered p Unknown = search arith
   turn-numbered p Cut = search arith

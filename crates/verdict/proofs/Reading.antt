@@ -5,9 +5,9 @@ use mathlib.Core.Path.{_≡_, refl, ap, _∙_}
 use mathlib.Core.Bool.{true≢false}
 use mathlib.Core.List.{List}
 use Rattle.answers.specs.declared.Refusal.{Refusal}
-use Rattle.ticket.specs.declared.answer.Answer.the-variants.{Read, Refused}
+use Rattle.ticket.specs.declared.answer.ReadAnswer.the-variants.{Read, Refused}
 use Rattle.ticket.specs.declared.answer.Reading.{Reading}
-use Rattle.ticket.specs.Fields.{Fields, Outcome, read, refused, ticketOf, fieldsOf, readingOf}
+use Rattle.ticket.specs.Fields.{Fields, ReadOutcome, read, refused, ticketOf, fieldsOf, readingOf}
 use Rattle.ticket.specs.Read.{readOf}
 use Rattle.ticket.specs.Rules.{Readable, ReadByTheRules}
 use Rattle.ticket.proofs.Listed.{fields-ticket}
@@ -16,11 +16,12 @@ use Rattle.rules.specs.Checks.{verdictOn}
 use Rattle.verdict.specs.declared.Certification.the-variants as Certification
 use Rattle.verdict.specs.Certification.{certificationIf, certificationOf}
 
-refused-as : (o : Outcome) (x : Refusal) → readingOf o .answer ≡ Refused x → o ≡ refused x
+refused-as : (o : ReadOutcome) (x : Refusal) → readingOf o .answer ≡ Refused x → o ≡ refused x
 refused-as (read f) x e = cc
 refused-as (refused y) x e = cc
 
-read-as : (o : Outcome) → readingOf o .answer ≡ Read → (f : Fields) × (o ≡ read f) × (readingOf o .ticket ≡ ticketOf f)
+read-as : (o : ReadOutcome) → readingOf o .answer ≡ Read → (f : Fields) × (o ≡ read f)
+    × (readingOf o .ticket ≡ ticketOf f)
 read-as (read f) e = (f, refl, refl)
 read-as (refused y) e = absurd (true≢false cc)
 

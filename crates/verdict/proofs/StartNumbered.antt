@@ -11,7 +11,7 @@ use Rattle.registers.specs.declared.Data.{Data}
 use Rattle.registers.specs.declared.Registers.{Registers}
 use Rattle.answers.specs.declared.Refusal.{Refusal}
 use Rattle.commands.specs.declared.header.Header.{Header}
-use Rattle.ticket.specs.Fields.{Outcome, read, refused}
+use Rattle.ticket.specs.Fields.{ReadOutcome, read, refused}
 use Rattle.ticket.specs.Read.{refusal, readOf}
 use Rattle.answers.specs.declared.Verdict.{Verdict}
 use Rattle.answers.specs.declared.Verdict.the-variants.{Accept, Refuse}
@@ -40,7 +40,7 @@ if-not-zero : (h : Header) (v : Verdict) → RefusesNotZero v → CertificationN
 if-not-zero h (Refuse r) p = p r refl
 if-not-zero h (Accept entry cost stack) p = tt
 
-by-not-zero : (image : List ℕ) (o : Outcome) → RefusesNotZero (verdictBy o image)
+by-not-zero : (image : List ℕ) (o : ReadOutcome) → RefusesNotZero (verdictBy o image)
     → CertificationNotZero (certificationBy o image)
 by-not-zero image (refused r) p = p r refl
 by-not-zero image (read f) p = if-not-zero (f .header) (verdictOn f image) p

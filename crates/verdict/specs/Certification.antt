@@ -4,7 +4,7 @@
 use Prim.Native.Nat.{ℕ}
 use mathlib.Core.List.{List}
 use Rattle.commands.specs.declared.header.Header.{Header}
-use Rattle.ticket.specs.Fields.{Outcome, read, refused}
+use Rattle.ticket.specs.Fields.{ReadOutcome, read, refused}
 use Rattle.ticket.specs.Read.{readOf}
 use Rattle.answers.specs.declared.Verdict.{Verdict}
 use Rattle.answers.specs.declared.Verdict.the-variants.{Accept, Refuse}
@@ -17,7 +17,7 @@ abbrev pub certificationIf : Verdict → Header → Certification
 certificationIf (Accept entry cost stack) h = Granted (record { header = h; cost = cost; stack = stack })
 certificationIf (Refuse r) h = Refused r
 
-abbrev pub certificationBy : Outcome → List ℕ → Certification
+abbrev pub certificationBy : ReadOutcome → List ℕ → Certification
 certificationBy (refused r) image = Refused r
 certificationBy (read f) image = certificationIf (verdictOn f image) (f .header)
 

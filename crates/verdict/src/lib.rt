@@ -18,7 +18,7 @@ use registers::Cycles;
 use registers::Data;
 use registers::Registers;
 use registers::StackBytes;
-use ticket::answer::Answer;
+use ticket::answer::ReadAnswer;
 use ticket::read;
 
 mod load; // the image and home's bytes into memory
@@ -45,8 +45,8 @@ pub fn certify(ticket: &[u8], image: &[u8]) -> Certification
     let reading = read(ticket);
     let answer = reading.answer;
     match answer {
-        Answer::Refused(x) => Certification::Refused(x),
-        Answer::Read => {
+        ReadAnswer::Refused(x) => Certification::Refused(x),
+        ReadAnswer::Read => {
             let t = reading.ticket;
             let header = t.header;
             match verdict_on(t, image) {

@@ -1,7 +1,7 @@
 -- What holds of the progress through every ticket: it serves the proof that no sum of the code overflows and no mark
 -- falls outside its array.
 -- Assumes nothing.
-use Prim.Native.Nat.{ℕ, _+_, _*_, _≤_, _<_}
+use Prim.Native.Nat.{_+_, _*_, _≤_, _<_}
 use mathlib.Core.Path.{_≡_}
 use mathlib.Core.Bool.{true}
 use Rattle.lists.specs.Bit.{one}

@@ -1,18 +1,16 @@
 -- The table of commands as the code has it: rows of four operands, those that a command lacks without bytes.
 -- Assumes nothing.
 use Prim.Native.Nat.{ℕ, zero, suc, _+_, _^_, _<_}
-use mathlib.Core.Path.{_≡_}
-use mathlib.Core.Bool.{Bool, true, false, cond, _&&_, _||_}
+use mathlib.Core.Bool.{Bool, true, false, cond, _&&_}
 use mathlib.Core.List.{List, [], _∷_}
-use lib.Dec.{eqb, leb}
 use lib.ListN.{getD, take, drop}
 use Rattle.commands.specs.Number.{number, digits}
-use Rattle.commands.specs.Rows.{Operand, any, within, text, between, printable, Row}
-use Rattle.commands.specs.declared.row.Operand.{Operand as CodeOperand}
-use Rattle.commands.specs.declared.row.Row.{Row as CodeRow}
+use Rattle.commands.specs.Rows.{CommandOperand, any, within, text, between, printable, CommandRow}
+use Rattle.commands.specs.declared.row.CommandOperand.{CommandOperand as CodeOperand}
+use Rattle.commands.specs.declared.row.CommandRow.{CommandRow as CodeRow}
 use Rattle.commands.specs.declared.command.Operands.{Operands}
 
-abbrev pub codeOperand : Operand → CodeOperand
+abbrev pub codeOperand : CommandOperand → CodeOperand
 codeOperand (any w) = record { width = w; least = 0; most = 0xffffffffffffffff; text = false }
 codeOperand (within w l m) = record { width = w; least = l; most = m; text = false }
 codeOperand (text w) = record { width = w; least = 0; most = 0xffffffffffffffff; text = true }
@@ -20,12 +18,12 @@ codeOperand (text w) = record { width = w; least = 0; most = 0xffffffffffffffff;
 abbrev pub absent : CodeOperand
 absent = record { width = 0; least = 0; most = 0; text = false }
 
-abbrev pub operandAt : List Operand → ℕ → CodeOperand
+abbrev pub operandAt : List CommandOperand → ℕ → CodeOperand
 operandAt [] i = absent
 operandAt (o ∷ os) zero = codeOperand o
 operandAt (o ∷ os) (suc i) = operandAt os i
 
-abbrev pub codeRow : Row → CodeRow
+abbrev pub codeRow : CommandRow → CodeRow
 codeRow r =
     let os = r .operands in
     record {

@@ -11,14 +11,14 @@ use borrow.Author.Tests.{lt-ltb, le-ltb, le-leb, lt-leb}
 use lib.Dec.{ltb, leb}
 use lib.ListN.{length, drop}
 use Rattle.arguments.specs.declared.number.Parsed.the-variants.{Malformed}
-use Rattle.arguments.specs.Number.{numberFrom, numberOf}
+use Rattle.arguments.specs.Number.{spelledFrom, numberOf}
 use Rattle.arguments.proofs.Spelled.{some-digits, no-digits, next-digit, last-digit}
 use Rattle.arguments.proofs.number.number.Statement.{statement}
 use Rattle.arguments.proofs.number.number.Tie as tie
 
 abbrev Inv-loop : tie.InvT-loop
 Inv-loop s base most v₀ i₀ v i =
-    (i ≤ length s) × (v < 4294967296) × (numberFrom base most v (drop i s) ≡ numberOf base most s)
+    (i ≤ length s) × (v < 4294967296) × (spelledFrom base most v (drop i s) ≡ numberOf base most s)
 
 abbrev μ-loop : tie.MeasureT-loop
 μ-loop s base most v₀ i₀ v i = length s - i
@@ -46,7 +46,7 @@ module _ (c : tie.After-digit Inv-loop μ-loop) where
 
   -- what the whole text spells, by this digit
   next : cond (ltb (c .digit .result) (start .args .base)) (cond (leb value (start .args .most))
-      (numberFrom (start .args .base) (start .args .most) value (drop (l .loop .i + 1) text)) Malformed) Malformed
+      (spelledFrom (start .args .base) (start .args .most) value (drop (l .loop .i + 1) text)) Malformed) Malformed
       ≡ numberOf (start .args .base) (start .args .most) text
   next =
       sym (next-digit _ _ text (l .loop .i) (l .loop .v) (c .digit .result) (c .before .before .loop-test .taken)

@@ -37,6 +37,10 @@ after-spec =
       c .before .header-with .ensures,
       c .before .before .before .before .before .width-of .ensures,
     ))
-    (λ c. simp (c .before .before .c2 .given .1, c .marked .ensures, c .before .before .before .before .width-of .ensures))
+    (λ c. simp (
+      c .before .before .c2 .given .1,
+      c .marked .ensures,
+      c .before .before .before .before .width-of .ensures,
+    ))
     (λ c. simp (c .before .enum-told .given .1, c .named .ensures, c .before .before .before .width-of .ensures))
     (λ c. simp (c .before .enum-told2 .given .1, c .staged2 .ensures, c .before .before .before .width-of .ensures)))

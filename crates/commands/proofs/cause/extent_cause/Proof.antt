@@ -12,7 +12,7 @@ use Rattle.commands.specs.inner.Extent.{extentCauseOf}
 use Rattle.commands.specs.declared.header.Window.{Window}
 use Rattle.commands.specs.declared.header.Header.{Header}
 use Rattle.commands.specs.declared.command.Command.{Command}
-use Rattle.commands.specs.declared.row.Row.{Row as CodeRow}
+use Rattle.commands.specs.declared.row.CommandRow.{CommandRow as CodeRow}
 use Rattle.commands.specs.declared.row.Extent.{Extent}
 use Rattle.commands.specs.declared.row.Extent.the-variants as Extent
 use Rattle.commands.proofs.Coding.{said}

@@ -7,13 +7,13 @@ use borrow.Author.Needs.{needs}
 use borrow.Author.Tests.{ltb-true}
 use native.Mathlib.Omega.{arith}
 use lib.ListN.{length, length-set, length-append}
-use Rattle.lists.specs.inner.Splice.{spliced}
+use Rattle.lists.specs.Splice.{spliced}
 use Rattle.commands.specs.Number.{digits}
 use Rattle.commands.specs.Rows.{rowOf, layoutOf, sizeOf}
 use Rattle.commands.specs.Bytes.{encodeOf, widthOf}
 use Rattle.commands.specs.Command.{commandByteOf, operandsOf}
 use Rattle.commands.specs.declared.command.Command.{Command}
-use Rattle.commands.specs.declared.row.Row.{Row as CodeRow}
+use Rattle.commands.specs.declared.row.CommandRow.{CommandRow as CodeRow}
 use Rattle.commands.specs.inner.Table.{codeRow, codeSize, Widths}
 use Rattle.commands.proofs.Coding.{said}
 use Rattle.commands.specs.declared.command.Operands.{Operands}

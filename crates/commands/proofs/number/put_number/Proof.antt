@@ -1,6 +1,6 @@
 -- `number::put_number` meets its contract: by the width that was matched.
 -- Assumes nothing.
-use mathlib.Core.Path.{_≡_, refl, sym}
+use mathlib.Core.Path.{_≡_, refl}
 use borrow.Author.Needs.{needs}
 use native.Mathlib.Omega.{arith}
 use Rattle.lists.proofs.Splice.{placed-none}

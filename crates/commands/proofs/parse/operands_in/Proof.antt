@@ -1,6 +1,5 @@
 -- `parse::operands_in` meets its contract: one number after another.
 -- Assumes nothing.
-use borrow.Author.Needs.{needs}
 use native.Mathlib.Omega.{arith}
 use Rattle.commands.proofs.parse.operands_in.Statement.{statement}
 use Rattle.commands.proofs.parse.operands_in.Tie as tie

@@ -6,7 +6,7 @@ use mathlib.Core.Path.{_≡_, sym, ap, _∙_}
 use mathlib.Core.List.{List, _++_}
 use Prim.Native.Nat.{ℕ}
 use lib.ListN.{length, length-map}
-use Rattle.text.specs.Text.{ascii}
+use Rattle.lists.specs.Ascii.{ascii}
 use Rattle.text.specs.Number.{hexOf}
 use Rattle.text.specs.Line.{written}
 use Rattle.text.specs.Columns.{listingText}

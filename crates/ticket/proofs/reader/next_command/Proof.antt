@@ -9,8 +9,8 @@ use lib.ListN.{length, take, drop, length-drop}
 use lib.Seq.{take-all}
 use Rattle.commands.specs.declared.admit.Admitted.{Admitted}
 use Rattle.commands.specs.declared.command.Command.{Command}
-use Rattle.commands.specs.declared.parse.Parsed.{Parsed}
-use Rattle.commands.specs.declared.parse.Parsed.the-variants.{Found}
+use Rattle.commands.specs.declared.parse.ParsedCommand.{ParsedCommand}
+use Rattle.commands.specs.declared.parse.ParsedCommand.the-variants.{Found}
 use Rattle.commands.specs.declared.progress.Progress.{Progress}
 use Rattle.commands.specs.Admit.{admitOf}
 use Rattle.commands.specs.Bytes.{parseOf}
@@ -19,8 +19,9 @@ use Rattle.ticket.proofs.reader.next_command.Statement.{statement}
 use Rattle.ticket.proofs.reader.next_command.Tie as tie
 
 -- d is what `parse` says of the part that it is lent
-module _ (s : List ℕ) (p : Progress) (d : Parsed) (says : d ≡ parseOf (take (length s - p .at) (drop (p .at) s))) where
-  parsed : (e : Parsed) → d ≡ e → parsedAs e p ≡ nextCommandOf (drop (p .at) s) p
+module _ (s : List ℕ) (p : Progress) (d : ParsedCommand) (says : d ≡ parseOf (take (length s - p .at)
+    (drop (p .at) s))) where
+  parsed : (e : ParsedCommand) → d ≡ e → parsedAs e p ≡ nextCommandOf (drop (p .at) s) p
   unfolding nextCommandOf
   parsed e g =
       let part : take (length s - p .at) (drop (p .at) s) ≡ drop (p .at) s =

@@ -5,7 +5,7 @@ use mathlib.Core.Path.{_≡_, _∙_}
 use Prim.Native.Nat.{_-_, _≤_}
 use native.Mathlib.Omega.{arith}
 use lib.ListN.{length, drop, drop-of-length-le}
-use Rattle.vectors.specs.Text.{Reading, held, Reads, none}
+use Rattle.vectors.specs.Text.{LineReading, held, ReadsLines, none}
 use Rattle.vectors.proofs.Text.{further}
 use Rattle.vectors.proofs.reader.piece.Statement.{statement}
 use Rattle.vectors.proofs.reader.piece.Tie as tie
@@ -13,7 +13,7 @@ use Rattle.vectors.proofs.reader.piece.Tie as tie
 abbrev Inv-loop : tie.InvT-loop
 Inv-loop s buffer₀ places₀ q₀ i₀ i-end buffer places q i =
     (length buffer ≡ 256) × (q .filled ≤ 256) × (i ≤ length s)
-    × ((f : Reading) → Reads (drop i s) (held q buffer) f → Reads s (held q₀ buffer₀) f)
+    × ((f : LineReading) → ReadsLines (drop i s) (held q buffer) f → ReadsLines s (held q₀ buffer₀) f)
 
 abbrev μ-loop : tie.MeasureT-loop
 μ-loop s buffer₀ places₀ q₀ i₀ i-end buffer places q i = length s - i

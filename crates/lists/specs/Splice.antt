@@ -1,4 +1,4 @@
--- A list written into another. An inner matter of the code.
+-- A list written into another.
 -- Assumes nothing.
 use Prim.Native.Nat.{ℕ, _+_}
 use mathlib.Core.List.{List, _++_}
