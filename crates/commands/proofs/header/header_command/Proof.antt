@@ -4,6 +4,7 @@ use Prim.Native.Nat.{ℕ, _<_}
 use mathlib.Core.Path.{_≡_, refl}
 use native.Mathlib.Omega.{arith}
 use Rattle.registers.specs.declared.Cycles.{Cycles}
+use Rattle.commands.specs.Rows.{headerLength}
 use Rattle.commands.specs.Fits.{Fits}
 use Rattle.commands.specs.Fits.FitsRow.{none, more}
 use Rattle.commands.specs.declared.header.Window.{Window}
@@ -16,7 +17,7 @@ use Rattle.commands.proofs.header.header_command.Tie as tie
 last : (c : tie.At-match-rest) → c .before .before .before .before .before .args .place ≡ 3
 last c =
     let s = c .before .before .before .before .before in
-    let early : s .args .place < 4 = s .pre in
+    let early : s .args .place < headerLength = s .pre in
     omega arith
 
 code-fits : (w : Window) → w .start < 65536 → w .length < 65536 → Fits (Command.Header (Code w))

@@ -10,7 +10,7 @@ use lib.Seq.{take-all, drop-cons}
 use Rattle.commands.specs.Bytes.{commandOf, parseOf}
 use Rattle.commands.specs.Command.{commandWith}
 use Rattle.commands.specs.inner.Table.{valuesOf, codeSize}
-use Rattle.commands.specs.Rows.{layoutOf, sizeOf}
+use Rattle.commands.specs.Rows.{commandRows, rowOf, layoutOf, sizeOf}
 use Rattle.commands.proofs.Table.{row-sizes, row-small, row-widths, row-values, row-fits}
 use Rattle.commands.specs.declared.command.Operands.{Operands}
 use Rattle.commands.proofs.parse.parse.Statement.{statement}
@@ -24,7 +24,7 @@ returns-2 : tie.Need-returns-2
 unfolding parseOf
 returns-2 c =
     let s = c .before .before .before .before .args .s .now in
-    sym (ap parseOf (drop-cons s 0 0 (omega arith)) ∙ simp (le-ltb (getD s 0 0) 7 (omega arith)))
+    sym (ap parseOf (drop-cons s 0 0 (omega arith)) ∙ simp (le-ltb (getD s 0 0) (length rows) (omega arith)))
 
 -- the row of the byte
 module _ (r : tie.After-row-of) where
@@ -34,7 +34,7 @@ module _ (r : tie.After-row-of) where
   sizes : codeSize (r .row-of .result) ≡ sizeOf (layoutOf byte)
   sizes = row-sizes byte _ (r .row-of .ensures)
 
-  known : byte < 7
+  known : byte < length rows
   known = omega arith
 
 returns-3 : tie.Need-returns-3
@@ -45,7 +45,7 @@ returns-3 c =
     sym (
     ap parseOf (drop-cons s 0 0 (omega arith))
     ∙ simp (
-      lt-ltb (getD s 0 0) 7 (known r),
+      lt-ltb (getD s 0 0) (length rows) (known r),
       ← sizes r,
       ← c .before .size .ensures,
       length-drop,
@@ -66,7 +66,7 @@ returns-4 c =
     sym (
     ap parseOf (drop-cons s 0 0 (omega arith))
     ∙ simp (
-      lt-ltb (getD s 0 0) 7 (known r),
+      lt-ltb (getD s 0 0) (length rows) (known r),
       ← sizes r,
       ← c .before .before .before .before .size .ensures,
       length-drop,
@@ -81,7 +81,9 @@ parse-spec =
     returns
     (search needs)
     returns-2
-    (λ c κs. let known : getD (c .before .before .before .before .args .s .now) 0 0 < 7 = omega arith in known)
+    (λ c κs.
+    let known : getD (c .before .before .before .before .args .s .now) 0 0 < length rows = omega arith in
+    known)
     (search needs)
     (λ c κs. row-small (byte c) _ (c .row-of .ensures))
     returns-3

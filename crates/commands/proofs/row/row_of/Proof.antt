@@ -3,12 +3,14 @@
 use mathlib.Core.Path.{_≡_}
 use Prim.Native.Nat.{_<_}
 use native.Mathlib.Omega.{arith}
+use lib.ListN.{length}
+use Rattle.commands.specs.Rows.{rows}
 use Rattle.commands.proofs.row.row_of.Statement.{statement}
 use Rattle.commands.proofs.row.row_of.Tie as tie
 
 -- the byte without an arm of its own
 last : (c : tie.At-match-rest) → c .before .args .b ≡ 6
-last c = let known : c .before .args .b < 7 = c .before .pre in omega arith
+last c = let known : c .before .args .b < length rows = c .before .pre in omega arith
 
 pub row-of-spec : {M : Type 1} → statement M
 row-of-spec =
