@@ -59,10 +59,17 @@ empty (m ∷ ms) e = absurd (omega arith)
 
 -- a header's commands, and one more
 one-more : (n : ℕ) (old new : List Command) (c : Command) → n < headerLength → take (suc n) new ≡ take n old ++ (c ∷ [])
-    → take (n + 1) new ++ cond (eqb (n + 1) 5) (Command.End ∷ []) []
-    ≡ (take n old ++ cond (eqb n 5) (Command.End ∷ []) []) ++ (c ∷ [])
+    → take (n + 1) new ++ cond (eqb (n + 1) (headerLength + 1)) (Command.End ∷ []) []
+    ≡ (take n old ++ cond (eqb n (headerLength + 1)) (Command.End ∷ []) []) ++ (c ∷ [])
 one-more n old new c l e =
-    rw (ne-eqb (n + 1) 5 (omega arith), ne-eqb n 5 (omega arith), append-nil, append-nil, add-one n, e)
+    rw (
+      ne-eqb (n + 1) (headerLength + 1) (omega arith),
+      ne-eqb n (headerLength + 1) (omega arith),
+      append-nil,
+      append-nil,
+      add-one n,
+      e,
+    )
 
 module _ (p : Progress) where
   no-marks : (ms : List Mark) → Consistent p ms → p .stage < headerLength → ms ≡ []

@@ -12,6 +12,7 @@ use Rattle.answers.specs.declared.Refusal.{Refusal}
 use Rattle.commands.specs.declared.progress.Progress.{Progress}
 use Rattle.commands.specs.declared.admit.Admitted.{Admitted}
 use Rattle.commands.specs.declared.admit.Admitted.the-variants.{Refused, Next}
+use Rattle.commands.specs.Rows.{headerLength}
 use Rattle.commands.specs.Progress.{afterOf, ended}
 use Rattle.commands.specs.Cause.{inOrder, commandCauseOf}
 use Rattle.commands.specs.Admit.{admitOf}
@@ -39,7 +40,8 @@ ends Command.End = true
 pub stage-after : (p : Progress) (c : Command) → inOrder p c ≡ true → ended (afterOf p c) ≡ ends c
 unfolding afterOf
 stage-after p (Command.Header c) h =
-    ne-eqb (p .stage + 1) 5 (omega (arith, in-order p (Command.Header c) h .0, header-law (p .header) c .early))
+    ne-eqb (p .stage + 1) (headerLength + 1)
+    (omega (arith, in-order p (Command.Header c) h .0, header-law (p .header) c .early))
 stage-after p (Command.Mark a k) h = rw (in-order p (Command.Mark a k) h .0)
 stage-after p (Command.Name a t) h = rw (in-order p (Command.Name a t) h .0)
 stage-after p Command.End h = rw (in-order p Command.End h .0)

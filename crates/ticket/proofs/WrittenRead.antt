@@ -1,7 +1,7 @@
 -- What is read is written again: the same bytes, and the writer refuses none of it.
 -- Assumes nothing.
 use mathlib.Core.Path.{_≡_, refl, sym, _∙_}
-use Prim.Native.Nat.{ℕ, _≤_}
+use Prim.Native.Nat.{ℕ, _+_, _≤_}
 use native.Mathlib.Omega.{arith}
 use mathlib.Core.Bool.{true≢false}
 use mathlib.Core.List.{List, _++_, append-nil}
@@ -11,6 +11,7 @@ use borrow.Author.Tests.{le-leb, eqb-true}
 use Rattle.commands.specs.declared.command.Command.{Command}
 use Rattle.commands.specs.declared.progress.Progress.{Progress}
 use Rattle.commands.specs.declared.admit.Admitted.the-variants.{Next}
+use Rattle.commands.specs.Rows.{headerLength}
 use Rattle.commands.specs.Progress.{initialProgress}
 use Rattle.commands.specs.Bytes.{widthOf}
 use Rattle.commands.specs.Every.{none, more}
@@ -47,7 +48,7 @@ free (goes d e r) = (e, free r)
 said : {p : Progress} {ms : List Mark} {s : List ℕ} {cs : List Command} {f : Fields} → Course p ms s cs f →
     Consistent p ms → soFar p ms ++ cs ≡ commandsOf f
 unfolding commandsOf
-said (done {p} e) k = simp (eqb-true (p .stage) 5 e, append-nil)
+said (done {p} e) k = simp (eqb-true (p .stage) (headerLength + 1) e, append-nil)
 said (goes {p} {ms} {c} {cs} d e r) k =
     sym (append-snoc (soFar p ms) c cs) ∙ rw (← said-next p ms k c e) (said r (consistent-next p ms k c e))
 
