@@ -1,6 +1,6 @@
 -- The progress through every ticket is sound: at the beginning it is, and a command that is read keeps it so.
 -- Assumes nothing.
-use Prim.Native.Nat.{ℕ, _+_, _≤_, _<_}
+use Prim.Native.Nat.{ℕ, _+_, _*_, _≤_, _<_}
 use native.Mathlib.Nat.{eq-zero-or-pos}
 use native.Mathlib.Omega.{arith}
 use mathlib.Core.Logic.{⊎-elim}
@@ -35,7 +35,7 @@ few : {p : Progress} → Sound p → p .count ≤ 4096
 few {p} s = ⊎-elim (λ z. omega arith) (λ o. omega (arith, s .rising o)) (eq-zero-or-pos (p .count))
 
 -- no more marks than the code window has bytes, and no more bytes than these marks and their names take
-pub bounds : {p : Progress} → Sound p → (p .count ≤ 4096) × (p .at ≤ 90167)
+pub bounds : {p : Progress} → Sound p → (p .count ≤ 4096) × (p .at ≤ 11 * (headerLength + 1) + 22 * 4096)
 bounds {p} s = let c = few s in (c, omega (arith, s .short, s .stages))
 
 module _ (p : Progress) (s : Sound p) (w : ℕ) (narrow : w ≤ 11) where
