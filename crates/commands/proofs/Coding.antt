@@ -43,18 +43,23 @@ said (Command.Header (Entry a l)) = record { known-byte = refl; as-many = refl; 
 said (Command.Mark a m) = record { known-byte = refl; as-many = refl; same = refl }
 said (Command.Name a t) = record { known-byte = refl; as-many = refl; same = refl }
 
+-- what holds of every number below n
+abbrev AllBelow : (ℕ → Type 0) → ℕ → Type 0
+AllBelow P zero = Unit
+AllBelow P (suc n) = P zero × AllBelow (λ b. P (suc b)) n
+
+below : (P : ℕ → Type 0) (n : ℕ) → AllBelow P n → (b : ℕ) → b < n → P b
+below P zero a b h = absurd (omega arith)
+below P (suc n) a zero h = a .0
+below P (suc n) a (suc b) h = below (λ b. P (suc b)) n (a .1) b (omega arith)
+
 -- the command of a byte has that byte, and the operands that it was made with
-command-parts : (b : ℕ) (s : List ℕ) → b < length commandRows → (commandByteOf (commandOf b s) ≡ b)
-    × (operandsOf (commandOf b s) ≡ operandsIn (layoutOf b) s)
+abbrev Parts : List ℕ → ℕ → Type 0
+Parts s b = (commandByteOf (commandOf b s) ≡ b) × (operandsOf (commandOf b s) ≡ operandsIn (layoutOf b) s)
+
+command-parts : (b : ℕ) (s : List ℕ) → b < length commandRows → Parts s b
 unfolding commandOf
-command-parts zero s h = (refl, refl)
-command-parts (suc zero) s h = (refl, refl)
-command-parts (suc (suc zero)) s h = (refl, refl)
-command-parts (suc (suc (suc zero))) s h = (refl, refl)
-command-parts (suc (suc (suc (suc zero)))) s h = (refl, refl)
-command-parts (suc (suc (suc (suc (suc zero))))) s h = (refl, refl)
-command-parts (suc (suc (suc (suc (suc (suc zero)))))) s h = (refl, refl)
-command-parts (suc (suc (suc (suc (suc (suc (suc b))))))) s h = let z : ⊥ = omega arith in absurd z
+command-parts b s h = below (Parts s) (length rows) (search) b h
 
 length-joined : {os : List CommandOperand} {vs : List ℕ} → Matched os vs → length (joined os vs) ≡ sizeOf os
 length-joined nothing = refl
