@@ -17,29 +17,20 @@ use Rattle.commands.specs.Command.{commandByteOf, operandsOf, commandWit
 use Rattle.commands.specs.Fits.{FitsRow, Fits}
 use Rattle.commands.specs.Fits.FitsRow.{none, more}
 use Rattle.commands.specs.Progress.{afterOf}
-use Rattle.commands.specs.declared.command.HeaderCommand.the-variants.{Code, Data, Stack, Entry}
 use Rattle.commands.specs.declared.command.Command.{Command}
 use Rattle.commands.specs.declared.command.Command.the-variants as Command
 use Rattle.commands.specs.declared.parse.ParsedCommand.the-variants.{Unknown, Cut, Found}
 use Rattle.commands.specs.declared.progress.Progress.{Progress}
+use Rattle.commands.proofs.HeaderLaw.{Said, header-said}
 use Rattle.commands.proofs.Table.{Matched, nothing, one, matched, row-size}
 use Rattle.commands.proofs.Digits.{length-digits, number-digits, number-below, digits-number, bytes-take}
 use Rattle.commands.proofs.Digits.{bytes-drop}
 
 -- ---- a command, its byte and its operands
 
--- a command's byte is known, it has as many operands as its row, and it is the command of that byte and these operands
-pub record Said (c : Command) : Type 0 where
-  pub known-byte : known (commandByteOf c) ≡ true
-  pub as-many : length (operandsOf c) ≡ length (layoutOf (commandByteOf c))
-  pub same : commandWith (commandByteOf c) (operandsOf c) ≡ c
-
 pub said : (c : Command) → Said c
 said Command.End = record { known-byte = refl; as-many = refl; same = refl }
-said (Command.Header (Code w)) = record { known-byte = refl; as-many = refl; same = refl }
-said (Command.Header (Data w)) = record { known-byte = refl; as-many = refl; same = refl }
-said (Command.Header (Stack w)) = record { known-byte = refl; as-many = refl; same = refl }
-said (Command.Header (Entry a l)) = record { known-byte = refl; as-many = refl; same = refl }
+said (Command.Header c) = header-said c
 said (Command.Mark a m) = record { known-byte = refl; as-many = refl; same = refl }
 said (Command.Name a t) = record { known-byte = refl; as-many = refl; same = refl }
 

@@ -6,16 +6,24 @@ use mathlib.Core.Path.{_≡_, refl}
 use mathlib.Core.Bool.{true, and-eq-true-iff}
 use mathlib.Core.List.{[], _∷_, _++_}
 use lib.Dec.{leb}
-use lib.ListN.{take}
+use lib.ListN.{length, take}
 use borrow.Author.Tests.{leb-true}
-use Rattle.commands.specs.Rows.{headerLength, between}
+use Rattle.commands.specs.Rows.{headerLength, between, layoutOf, known}
+use Rattle.commands.specs.Command.{commandByteOf, operandsOf, commandWith}
 use Rattle.commands.specs.Header.{headerWith, headerCommands}
 use Rattle.commands.specs.Cause.{placeOf, rangesHold}
 use Rattle.commands.specs.declared.header.Window.{Window}
 use Rattle.commands.specs.declared.header.Header.{Header}
 use Rattle.commands.specs.declared.command.HeaderCommand.{HeaderCommand}
 use Rattle.commands.specs.declared.command.HeaderCommand.the-variants.{Code, Data, Stack, Entry}
+use Rattle.commands.specs.declared.command.Command.{Command}
 use Rattle.commands.specs.declared.command.Command.the-variants as Command
+
+-- a command's byte is known, it has as many operands as its row, and it is the command of that byte and these operands
+pub record Said (c : Command) : Type 0 where
+  pub known-byte : known (commandByteOf c) ≡ true
+  pub as-many : length (operandsOf c) ≡ length (layoutOf (commandByteOf c))
+  pub same : commandWith (commandByteOf c) (operandsOf c) ≡ c
 
 pub record HeaderLaw (h : Header) (c : HeaderCommand) : Type 0 where
   -- it comes before the marks
@@ -38,3 +46,9 @@ header-law h (Code w) = record { early = omega arith; stated = refl; small = λ 
 header-law h (Data w) = record { early = omega arith; stated = refl; small = λ r s. s }
 header-law h (Stack w) = record { early = omega arith; stated = refl; small = λ r s. s }
 header-law h (Entry a l) = record { early = omega arith; stated = refl; small = λ r s. s }
+
+pub header-said : (c : HeaderCommand) → Said (Command.Header c)
+header-said (Code w) = record { known-byte = refl; as-many = refl; same = refl }
+header-said (Data w) = record { known-byte = refl; as-many = refl; same = refl }
+header-said (Stack w) = record { known-byte = refl; as-many = refl; same = refl }
+header-said (Entry a l) = record { known-byte = refl; as-many = refl; same = refl }

@@ -4,8 +4,8 @@ pub mod Pieces
 pub mod Digits
 pub mod Put
 pub mod Table
+pub mod HeaderLaw
 pub mod Coding
 pub mod Causes
-pub mod HeaderLaw
 pub mod Sound
 pub mod Printable
