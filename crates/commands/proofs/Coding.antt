@@ -2,7 +2,7 @@
 -- Assumes nothing.
 use mathlib.Core.Path.{_≡_, refl}
 use mathlib.Core.Bool.{Bool, true, false, cond}
-use Prim.Native.Nat.{ℕ, zero, suc, _+_, _^_, _≤_, _<_}
+use Prim.Native.Nat.{ℕ, _+_, _^_, _≤_, _<_}
 use native.Mathlib.Omega.{arith}
 use native.Mathlib.Numerals.{one-add}
 use mathlib.Core.List.{List, [], _∷_, _++_, append-assoc}
@@ -21,6 +21,7 @@ use Rattle.commands.specs.declared.command.Command.{Command}
 use Rattle.commands.specs.declared.command.Command.the-variants as Command
 use Rattle.commands.specs.declared.parse.ParsedCommand.the-variants.{Unknown, Cut, Found}
 use Rattle.commands.specs.declared.progress.Progress.{Progress}
+use Rattle.commands.proofs.Below.{below}
 use Rattle.commands.proofs.HeaderLaw.{Said, header-said}
 use Rattle.commands.proofs.Table.{Matched, nothing, one, matched, row-size}
 use Rattle.commands.proofs.Digits.{length-digits, number-digits, number-below, digits-number, bytes-take}
@@ -33,16 +34,6 @@ said Command.End = record { known-byte = refl; as-many = refl; same = refl }
 said (Command.Header c) = header-said c
 said (Command.Mark a m) = record { known-byte = refl; as-many = refl; same = refl }
 said (Command.Name a t) = record { known-byte = refl; as-many = refl; same = refl }
-
--- what holds of every number below n
-abbrev AllBelow : (ℕ → Type 0) → ℕ → Type 0
-AllBelow P zero = Unit
-AllBelow P (suc n) = P zero × AllBelow (λ b. P (suc b)) n
-
-below : (P : ℕ → Type 0) (n : ℕ) → AllBelow P n → (b : ℕ) → b < n → P b
-below P zero a b h = absurd (omega arith)
-below P (suc n) a zero h = a .0
-below P (suc n) a (suc b) h = below (λ b. P (suc b)) n (a .1) b (omega arith)
 
 -- the command of a byte has that byte, and the operands that it was made with
 abbrev Parts : List ℕ → ℕ → Type 0

@@ -1,5 +1,6 @@
 pub mod Every
 pub mod Tests
+pub mod Below
 pub mod Pieces
 pub mod Digits
 pub mod Put
