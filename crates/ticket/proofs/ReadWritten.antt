@@ -3,16 +3,18 @@
 -- Assumes nothing.
 use Prim.Native.Nat.{ℕ, zero, suc, _<_}
 use mathlib.Core.Path.{_≡_, refl, ap, _∙_}
-use mathlib.Core.Bool.{Bool, true, false}
+use mathlib.Core.Bool.{Bool, true, false, not, _&&_, and-eq-true-iff}
 use mathlib.Core.List.{List, [], _∷_, _++_}
 use native.Mathlib.Omega.{arith}
 use lib.ListN.{length, length-append}
+use borrow.Author.Tests.{not-true}
 use Rattle.commands.specs.declared.command.Command.{Command}
 use Rattle.commands.specs.declared.command.Command.the-variants as Command
 use Rattle.answers.specs.declared.Refusal.{Refusal}
 use Rattle.commands.specs.declared.progress.Progress.{Progress}
 use Rattle.commands.specs.declared.admit.Admitted.the-variants.{Refused, Next}
 use Rattle.commands.specs.Every.{none, more}
+use Rattle.commands.specs.Header.{headerCommands}
 use Rattle.commands.specs.Bytes.{encodeOf}
 use Rattle.commands.specs.Progress.{initialProgress, ended}
 use Rattle.commands.proofs.Coding.{length-encode, width-positive}
@@ -41,9 +43,20 @@ closed-marks : (ms : List Mark) → Closed false (markCommands ms ++ (Command.En
 closed-marks [] = before after
 closed-marks (m ∷ ms) = before (closed-name (m .address) (m .name) (markCommands ms) _ (closed-marks ms))
 
+-- none of some commands is the end
+abbrev endless : List Command → Bool
+endless [] = true
+endless (c ∷ cs) = not (ends c) && endless cs
+
+closed-header : (cs ds : List Command) → endless cs ≡ true → Closed false ds → Closed false (cs ++ ds)
+closed-header [] ds e d = d
+closed-header (c ∷ cs) ds e d =
+    let t = and-eq-true-iff (not (ends c)) _ .0 e in
+    before {c = c} {cs = cs ++ ds} (rw (not-true (ends c) (t .0)) (closed-header cs ds (t .1) d))
+
 closed : (f : Fields) → Closed false (commandsOf f)
 unfolding commandsOf
-closed f = before (before (before (before (closed-marks (f .marks)))))
+closed f = closed-header (headerCommands (f .header)) _ refl (closed-marks (f .marks))
 
 -- what comes after a refused command changes nothing
 pub refused-stays : (r : Refusal) (cs : List Command) → allThen (Refused r) cs ≡ Refused r
