@@ -54,7 +54,7 @@ headed h = afterAll initialProgress (headerCommands h)
 header-says : (h : Header) (cs : List Command) → Free initialProgress (headerCommands h ++ cs) ↔ (HeaderRules h
     × Free (headed h) cs)
 unfolding afterOf widthOf rangesHold
-header-says h cs = simp (cause-says, tests) (λ f. (search arith, f .1 .1 .1 .1), λ r. search arith)
+header-says h cs = simp (cause-says, tests) (λ f. search arith, λ r. search arith)
 
 -- ---- one mark and its name, after a header and perhaps other marks
 
