@@ -41,7 +41,7 @@ Parts s b = (commandByteOf (commandOf b s) ≡ b) × (operandsOf (commandOf b s)
 
 command-parts : (b : ℕ) (s : List ℕ) → b < length commandRows → Parts s b
 unfolding commandOf
-command-parts b s h = below (Parts s) (length rows) (search) b h
+command-parts b s h = below (Parts s) (length commandRows) (search) b h
 
 length-joined : {os : List CommandOperand} {vs : List ℕ} → Matched os vs → length (joined os vs) ≡ sizeOf os
 length-joined nothing = refl

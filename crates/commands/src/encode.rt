@@ -22,23 +22,6 @@ pub fn width_of(c: Command) -> u32
     (1 + size(row_of(byte_of(c)))) as u32
 }
 
-// Two operands at an offset of the output; the offset after them.
-fn put_pair(
-    o: CommandOperand,
-    v: u64,
-    p: CommandOperand,
-    w: u64,
-    out: &mut [u8],
-    at: usize,
-) -> usize
-    requires { ⌜ Width (o .width) × Width (p .width) × (at + o .width + p .width ≤ length (now out)) ⌝ }
-    ensures { λ r. ⌜ (now (out .exit) ≡ spliced (now (out .entry)) at (digits (o .width) v ++ digits (p .width) w))
-        × (r ≡ at + o .width + p .width) ⌝ }
-{
-    let next = put_number(v, o.width, out, at);
-    put_number(w, p.width, out, next)
-}
-
 // A command at an offset of the output; the offset after it.
 pub fn put_command(c: Command, out: &mut [u8], at: usize) -> usize
     requires { ⌜ at + widthOf c ≤ length (now out) ⌝ }
@@ -52,6 +35,8 @@ pub fn put_command(c: Command, out: &mut [u8], at: usize) -> usize
     let third = row.third;
     let fourth = row.fourth;
     out[at] = b;
-    let half = put_pair(first, v.first, second, v.second, out, at + 1);
-    put_pair(third, v.third, fourth, v.fourth, out, half)
+    let to_second = put_number(v.first, first.width, out, at + 1);
+    let to_third = put_number(v.second, second.width, out, to_second);
+    let to_fourth = put_number(v.third, third.width, out, to_third);
+    put_number(v.fourth, fourth.width, out, to_fourth)
 }

@@ -6,7 +6,7 @@ use Prim.Native.Nat.{_<_}
 use native.Mathlib.Omega.{arith}
 use mathlib.Core.List.{[], _∷_}
 use lib.ListN.{length}
-use Rattle.commands.specs.Rows.{rows}
+use Rattle.commands.specs.Rows.{commandRows}
 use Rattle.commands.proofs.Below.{only}
 use Rattle.commands.proofs.command.command_with.Statement.{statement}
 use Rattle.commands.proofs.command.command_with.Tie as tie
@@ -20,7 +20,7 @@ mark-fits c = rw (c .match .keys6) at (c .before .pre .1)
 
 -- the byte without an arm of its own
 last : (c : tie.At-match-rest) → c .before .args .b ≡ 6
-last c = only (length rows) 6 (5 ∷ 4 ∷ 3 ∷ 2 ∷ 1 ∷ 0 ∷ []) (search) _ (c .before .pre .0) (c .match .rest)
+last c = only (length commandRows) 6 (5 ∷ 4 ∷ 3 ∷ 2 ∷ 1 ∷ 0 ∷ []) (search) _ (c .before .pre .0) (c .match .rest)
 
 name-fits : (c : tie.At-match-rest) → c .before .args .v .first < 65536
 name-fits c = let f = rw (last c) at (c .before .pre .1) in f .0

@@ -2,11 +2,11 @@
 -- Assumes nothing.
 use mathlib.Core.Path.{_≡_, ap, _∙_}
 use Prim.Native.Nat.{ℕ, _+_, _≤_}
-use mathlib.Core.List.{List, _∷_, _++_}
+use mathlib.Core.List.{List, [], _∷_, _++_, append-assoc}
 use borrow.Author.Needs.{needs}
 use borrow.Author.Tests.{ltb-true}
 use native.Mathlib.Omega.{arith}
-use lib.ListN.{length, length-set, length-append}
+use lib.ListN.{length, set, length-set}
 use Rattle.lists.specs.Splice.{spliced}
 use Rattle.commands.specs.Number.{digits}
 use Rattle.commands.specs.Rows.{rowOf, layoutOf, sizeOf}
@@ -17,9 +17,7 @@ use Rattle.commands.specs.declared.row.CommandRow.{CommandRow as CodeRow
 use Rattle.commands.specs.inner.Table.{codeRow, codeSize, Widths}
 use Rattle.commands.proofs.Coding.{said}
 use Rattle.commands.specs.declared.command.Operands.{Operands}
-use Rattle.commands.proofs.Put.{placed-byte}
-use Rattle.commands.proofs.Digits.{length-digits}
-use Rattle.lists.proofs.Splice.{placed-next}
+use Rattle.commands.proofs.Put.{placed-byte, placed-digits}
 use Rattle.commands.proofs.Table.{row-sizes, row-widths, row-joined}
 use Rattle.commands.proofs.encode.put_command.Statement.{statement}
 use Rattle.commands.proofs.encode.put_command.Tie as tie
@@ -27,6 +25,9 @@ use Rattle.commands.proofs.encode.put_command.Tie as tie
 row-of-requires : tie.Need-row-of-requires
 row-of-requires c κs =
     rw (c .before .byte-of .ensures) (ltb-true _ _ (said (c .before .before .before .args .c) .known-byte))
+
+one-by-one : (x : ℕ) (s t u v : List ℕ) → ((((x ∷ []) ++ s) ++ t) ++ u) ++ v ≡ x ∷ ((s ++ t) ++ (u ++ v))
+one-by-one x s t u v = simp append-assoc
 
 cons : {x y : ℕ} {s t : List ℕ} → x ≡ y → s ≡ t → x ∷ s ≡ y ∷ t
 cons e f = rw (e, f)
@@ -58,13 +59,16 @@ module _ (r : tie.After-row-of) where
   room = omega (arith, sizes)
 
   encoded :
-      r .before .before .byte-of .result
-      ∷ ((digits (row .first .width) (values .first) ++ digits (row .second .width) (values .second)) ++
-      (digits (row .third .width) (values .third) ++ digits (row .fourth .width) (values .fourth)))
+      (((((r .before .before .byte-of .result ∷ []) ++ digits (row .first .width) (values .first)) ++
+      digits (row .second .width) (values .second)) ++ digits (row .third .width) (values .third)) ++
+      digits (row .fourth .width) (values .fourth))
       ≡ encodeOf command
   unfolding encodeOf
   encoded =
-      cons (r .before .before .byte-of .ensures) (row-joined (commandByteOf command) row is-row (operandsOf command)
+      one-by-one (r .before .before .byte-of .result) (digits (row .first .width) (values .first))
+      (digits (row .second .width) (values .second)) (digits (row .third .width) (values .third))
+      (digits (row .fourth .width) (values .fourth))
+      ∙ cons (r .before .before .byte-of .ensures) (row-joined (commandByteOf command) row is-row (operandsOf command)
       (said command .as-many) values (r .before .operands-of .ensures .0))
 
   whole : r .before .before .before .before .args .at + 1 + row .first .width + row .second .width + row .third .width +
@@ -74,27 +78,31 @@ module _ (r : tie.After-row-of) where
 
 returns : tie.Need-returns
 returns c =
-    let r = c .before .before .before .before .before .before .before .before .before .before .before .before in
+    let c₃ = c .before .before .before .before in
+    let c₂ = c₃ .before .before .before .before in
+    let c₁ = c₂ .before .before .before .before in
+    let r = c₁ .before .before .before .before .before .before .before .before in
     let a = r .before .before .before .before .args in
     let w = row r in
     let v = values r in
-    let n₁ = c .before .before .before .before .before .before .put-pair in
-    let n₂ = c .before .before .put-pair2 in
+    let n₁ = c₁ .before .before .put-number in
+    let n₂ = c₂ .before .before .put-number2 in
+    let n₃ = c₃ .before .before .put-number3 in
+    let n₄ = c .before .before .put-number4 in
     let fits = room r in
     let p₀ = placed-byte (a .out .now) (a .at) (r .before .before .byte-of .result) (omega arith) in
-    let p₁ =
-    placed-next {m = n₁ .result} p₀ (omega arith) (digits (w .first .width) (v .first) ++
-    digits (w .second .width) (v .second)) (
-      n₁ .ensures .0,
-      simp (length-append, length-digits) (omega arith),
-    ) in
-    let p₂ =
-    placed-next {m = n₂ .result} p₁ (omega arith) (digits (w .third .width) (v .third) ++
-    digits (w .fourth .width) (v .fourth)) (
-      n₂ .ensures .0,
-      simp (length-append, length-digits) (omega arith),
-    ) in
-    (p₂ .bytes ∙ ap (λ (s : List ℕ). spliced (a .out .now) (a .at) s) (encoded r), omega (arith, whole r))
+    let p₁ = placed-digits {m = n₁ .result} p₀ (omega arith) (w .first .width) (v .first) (n₁ .ensures) in
+    let p₂ = placed-digits {m = n₂ .result} p₁ (omega arith) (w .second .width) (v .second) (n₂ .ensures) in
+    let p₃ = placed-digits {m = n₃ .result} p₂ (omega arith) (w .third .width) (v .third) (n₃ .ensures) in
+    let p₄ = placed-digits {m = n₄ .result} p₃ (omega arith) (w .fourth .width) (v .fourth) (n₄ .ensures) in
+    (p₄ .bytes ∙ ap (λ (s : List ℕ). spliced (a .out .now) (a .at) s) (encoded r), omega (arith, whole r))
+
+-- the output is as long as before the first byte is put
+as-long : (r : tie.After-row-of) → let s = r .before .before .before .before in
+    length (set (s .args .out .now) (s .args .at) (r .before .before .byte-of .result)) ≡ length (s .args .out .now)
+as-long r =
+    let s = r .before .before .before .before in
+    length-set (s .args .out .now) (s .args .at) (r .before .before .byte-of .result)
 
 pub put-command-spec : {M : Type 1} → statement M
 put-command-spec =
@@ -105,22 +113,42 @@ put-command-spec =
     row-of-requires
     (λ c. omega (arith, room (c .before .before .before .before)))
     (search needs)
-    (λ c κs. let r = c .before .before .before .before .before in
-    (widths r .0, widths r .1, simp length-set (omega (arith, room r))))
-    (λ c κs. let r = c .before .before .before .before .before .before .before .before .before in (
-      widths r .2,
+    (λ c κs.
+    let r = c .before .before .before .before .before in
+    (widths r .0, omega (arith, room r, as-long r)))
+    (λ c κs.
+    let r = c .before .before .before .before .before .before .before .before .before in
+    (widths r .1, omega (arith, room r, as-long r)))
+    (λ c κs.
+    let d = c .before .before .before .before in
+    let r = d .before .before .before .before .before .before .before .before .before in
+    (widths r .2, omega (arith, room r, as-long r)))
+    (λ c κs.
+    let n₃ = c .before .before .before in
+    let n₂ = n₃ .before .before .before .before in
+    let n₁ = n₂ .before .before .before .before in
+    let r = n₁ .before .before .before .before .before .before in (
       widths r .3,
       omega (
         arith,
         room r,
-        length-set (r .before .before .before .before .args .out .now)
-            (r .before .before .before .before .args .at) (r .before .before .byte-of .result),
+        as-long r,
+        n₁ .put-number .ensures .1,
+        n₂ .put-number2 .ensures .1,
+        n₃ .put-number3 .ensures .1,
       ),
     ))
-    (λ c. let r = c .before .before .before .before .before .before .before .before .before .before .before .before in
+    (λ c.
+    let c₃ = c .before .before .before .before in
+    let c₂ = c₃ .before .before .before .before in
+    let c₁ = c₂ .before .before .before .before in
+    let r = c₁ .before .before .before .before .before .before .before .before in
     omega (
       arith,
-      length-set (r .before .before .before .before .args .out .now)
-          (r .before .before .before .before .args .at) (r .before .before .byte-of .result),
+      as-long r,
+      c₁ .before .out .given,
+      c₂ .before .out2 .given,
+      c₃ .before .out3 .given,
+      c .before .out4 .given,
     ))
     returns)

@@ -24,7 +24,7 @@ returns-2 : tie.Need-returns-2
 unfolding parseOf
 returns-2 c =
     let s = c .before .before .before .before .args .s .now in
-    sym (ap parseOf (drop-cons s 0 0 (omega arith)) ∙ simp (le-ltb (getD s 0 0) (length rows) (omega arith)))
+    sym (ap parseOf (drop-cons s 0 0 (omega arith)) ∙ simp (le-ltb (getD s 0 0) (length commandRows) (omega arith)))
 
 -- the row of the byte
 module _ (r : tie.After-row-of) where
@@ -34,7 +34,7 @@ module _ (r : tie.After-row-of) where
   sizes : codeSize (r .row-of .result) ≡ sizeOf (layoutOf byte)
   sizes = row-sizes byte _ (r .row-of .ensures)
 
-  known : byte < length rows
+  known : byte < length commandRows
   known = omega arith
 
 returns-3 : tie.Need-returns-3
@@ -45,7 +45,7 @@ returns-3 c =
     sym (
     ap parseOf (drop-cons s 0 0 (omega arith))
     ∙ simp (
-      lt-ltb (getD s 0 0) (length rows) (known r),
+      lt-ltb (getD s 0 0) (length commandRows) (known r),
       ← sizes r,
       ← c .before .size .ensures,
       length-drop,
@@ -66,7 +66,7 @@ returns-4 c =
     sym (
     ap parseOf (drop-cons s 0 0 (omega arith))
     ∙ simp (
-      lt-ltb (getD s 0 0) (length rows) (known r),
+      lt-ltb (getD s 0 0) (length commandRows) (known r),
       ← sizes r,
       ← c .before .before .before .before .size .ensures,
       length-drop,
@@ -82,7 +82,7 @@ parse-spec =
     (search needs)
     returns-2
     (λ c κs.
-    let known : getD (c .before .before .before .before .args .s .now) 0 0 < length rows = omega arith in
+    let known : getD (c .before .before .before .before .args .s .now) 0 0 < length commandRows = omega arith in
     known)
     (search needs)
     (λ c κs. row-small (byte c) _ (c .row-of .ensures))

@@ -3,14 +3,14 @@
 use mathlib.Core.Path.{_≡_}
 use mathlib.Core.List.{[], _∷_}
 use lib.ListN.{length}
-use Rattle.commands.specs.Rows.{rows}
+use Rattle.commands.specs.Rows.{commandRows}
 use Rattle.commands.proofs.Below.{only}
 use Rattle.commands.proofs.row.row_of.Statement.{statement}
 use Rattle.commands.proofs.row.row_of.Tie as tie
 
 -- the byte without an arm of its own
 last : (c : tie.At-match-rest) → c .before .args .b ≡ 6
-last c = only (length rows) 6 (5 ∷ 4 ∷ 3 ∷ 2 ∷ 1 ∷ 0 ∷ []) (search) _ (c .before .pre) (c .match .rest)
+last c = only (length commandRows) 6 (5 ∷ 4 ∷ 3 ∷ 2 ∷ 1 ∷ 0 ∷ []) (search) _ (c .before .pre) (c .match .rest)
 
 pub row-of-spec : {M : Type 1} → statement M
 row-of-spec =
