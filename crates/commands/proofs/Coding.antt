@@ -13,7 +13,7 @@ use borrow.Author.Tests.{ltb-true, leb-true, le-leb}
 use Rattle.commands.specs.Number.{number, digits, AllBytes}
 use Rattle.commands.specs.Rows.{CommandOperand, widthIn, sizeOf, commandRows, layoutOf, known}
 use Rattle.commands.specs.Bytes.{joined, encodeOf, widthOf, operandsIn, commandOf, parseOf}
-use Rattle.commands.specs.Command.{commandByteOf, operandsOf, commandWith}
+use Rattle.commands.specs.Command.{commandByteOf, operandsOf}
 use Rattle.commands.specs.Fits.{FitsRow, Fits}
 use Rattle.commands.specs.Fits.FitsRow.{none, more}
 use Rattle.commands.specs.Progress.{afterOf}

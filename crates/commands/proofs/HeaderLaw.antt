@@ -1,6 +1,6 @@
 -- What each command of the header does: a case for each.
 -- Assumes nothing.
-use Prim.Native.Nat.{suc, _≤_, _<_}
+use Prim.Native.Nat.{suc, _+_, _≤_, _<_}
 use native.Mathlib.Omega.{arith}
 use mathlib.Core.Path.{_≡_, refl}
 use mathlib.Core.Bool.{true, and-eq-true-iff}
@@ -11,7 +11,9 @@ use borrow.Author.Tests.{leb-true}
 use Rattle.commands.specs.Rows.{headerLength, between, layoutOf, known}
 use Rattle.commands.specs.Command.{commandByteOf, operandsOf, commandWith}
 use Rattle.commands.specs.Header.{headerWith, headerCommands}
+use Rattle.commands.specs.Bytes.{widthOf}
 use Rattle.commands.specs.Cause.{placeOf, rangesHold}
+use Rattle.commands.specs.inner.Sound.{headerBytes}
 use Rattle.commands.specs.declared.header.Window.{Window}
 use Rattle.commands.specs.declared.header.Header.{Header}
 use Rattle.commands.specs.declared.command.HeaderCommand.{HeaderCommand}
@@ -31,6 +33,9 @@ pub record HeaderLaw (h : Header) (c : HeaderCommand) : Type 0 where
   -- the commands up to its place state what the header has with it
   pub stated : take (suc (placeOf (Command.Header c))) (headerCommands (headerWith h c))
       ≡ take (placeOf (Command.Header c)) (headerCommands h) ++ (Command.Header c ∷ [])
+  -- it has the bytes that the table gives its place
+  pub wide : headerBytes (placeOf (Command.Header c)) + widthOf (Command.Header c)
+      ≡ headerBytes (suc (placeOf (Command.Header c)))
   -- the code window keeps to its range
   pub small : rangesHold (Command.Header c) ≡ true → h .code .length ≤ 4096 → headerWith h c .code .length ≤ 4096
 
@@ -42,10 +47,11 @@ short w e =
     (and-eq-true-iff (between 1 4096 (w .length)) true .0 e .0) .1)
 
 pub header-law : (h : Header) (c : HeaderCommand) → HeaderLaw h c
-header-law h (Code w) = record { early = omega arith; stated = refl; small = λ r s. short w r }
-header-law h (Data w) = record { early = omega arith; stated = refl; small = λ r s. s }
-header-law h (Stack w) = record { early = omega arith; stated = refl; small = λ r s. s }
-header-law h (Entry a l) = record { early = omega arith; stated = refl; small = λ r s. s }
+unfolding widthOf
+header-law h (Code w) = record { early = omega arith; stated = refl; wide = refl; small = λ r s. short w r }
+header-law h (Data w) = record { early = omega arith; stated = refl; wide = refl; small = λ r s. s }
+header-law h (Stack w) = record { early = omega arith; stated = refl; wide = refl; small = λ r s. s }
+header-law h (Entry a l) = record { early = omega arith; stated = refl; wide = refl; small = λ r s. s }
 
 pub header-said : (c : HeaderCommand) → Said (Command.Header c)
 header-said (Code w) = record { known-byte = refl; as-many = refl; same = refl }

@@ -1,7 +1,8 @@
 -- The progress through every ticket is sound: at the beginning it is, and a command that is read keeps it so.
 -- Assumes nothing.
-use Prim.Native.Nat.{ℕ, _+_, _*_, _≤_, _<_}
-use native.Mathlib.Nat.{eq-zero-or-pos}
+use Prim.Native.Nat.{ℕ, zero, suc, _+_, _-_, _*_, _≤_, _<_}
+use native.Mathlib.Nat.{eq-zero-or-pos, add-zero, add-suc, add-sub-of-le}
+use native.Mathlib.Numerals.{add-one}
 use native.Mathlib.Omega.{arith}
 use mathlib.Core.Logic.{⊎-elim}
 use mathlib.Core.Path.{_≡_, refl, ap}
@@ -10,8 +11,9 @@ use lib.Dec.{eqb, ltb}
 use borrow.Author.Tests.{ltb-true, leb-true, eqb-true, ne-eqb}
 use Rattle.lists.specs.Bit.{one}
 use Rattle.commands.specs.Rows.{headerLength}
+use Rattle.commands.specs.Bytes.{widthOf}
 use Rattle.commands.specs.Progress.{initialProgress, stagedOf, markedOf, namedOf, afterOf}
-use Rattle.commands.specs.inner.Sound.{Sound, SoundSoFar, stopped, sound}
+use Rattle.commands.specs.inner.Sound.{headerBytes, Sound, SoundSoFar, stopped, sound}
 use Rattle.commands.specs.Cause.{commandCauseOf}
 use Rattle.commands.specs.Admit.{admitOf, thenOf}
 use Rattle.commands.specs.declared.command.Command.{Command}
@@ -34,13 +36,30 @@ sound-start = omega (arith, impossible)
 few : {p : Progress} → Sound p → p .count ≤ 4096
 few {p} s = ⊎-elim (λ z. omega arith) (λ o. omega (arith, s .rising o)) (eq-zero-or-pos (p .count))
 
+bytes-rise : (n k : ℕ) → headerBytes n ≤ headerBytes (n + k)
+bytes-rise n zero = rw add-zero (omega arith)
+bytes-rise n (suc k) = rw (add-suc n k) (omega (arith, bytes-rise n k))
+
 -- no more marks than the code window has bytes, and no more bytes than these marks and their names take
-pub bounds : {p : Progress} → Sound p → (p .count ≤ 4096) × (p .at ≤ 11 * (headerLength + 1) + 22 * 4096)
-bounds {p} s = let c = few s in (c, omega (arith, s .short, s .stages))
+pub bounds : {p : Progress} → Sound p → (p .count ≤ 4096) × (p .at ≤ headerBytes (headerLength + 1) + 22 * 4096)
+bounds {p} s =
+    let c = few s in
+    let h = rw (add-sub-of-le (s .stages)) at (bytes-rise (p .stage) (headerLength + 1 - p .stage)) in
+    (c, omega (arith, s .short, h))
 
 module _ (p : Progress) (s : Sound p) (w : ℕ) (narrow : w ≤ 11) where
-  to-header : (h : Header) → p .stage < headerLength → h .code .length ≤ 4096 → Sound (stagedOf p w h)
-  to-header h early small = let e = s .unmarked early in omega (arith, impossible)
+  to-header : (h : Header) → p .stage < headerLength → headerBytes (p .stage) + w ≡ headerBytes (p .stage + 1)
+      → h .code .length ≤ 4096 → Sound (stagedOf p w h)
+  to-header h early wide small =
+      let e = s .unmarked early in
+      record {
+        stages = omega arith;
+        unmarked = omega arith;
+        short = omega (arith, s .short, wide);
+        small = small;
+        rising = omega arith;
+        named = omega (arith, impossible);
+      }
 
   to-mark : (a : ℕ) → p .stage ≡ headerLength → p .header .code .start ≤ a
       → a < p .header .code .start + p .header .code .length → (1 ≤ p .count → p .last < a) → Sound (markedOf p w a)
@@ -61,16 +80,22 @@ module _ (p : Progress) (s : Sound p) (w : ℕ) (narrow : w ≤ 11) where
         named = omega (arith, impossible);
       }
 
-  to-end : p .stage ≡ headerLength → Sound (stagedOf p w (p .header))
-  to-end body =
+  to-end : p .stage ≡ headerLength → headerBytes (p .stage) + w ≡ headerBytes (p .stage + 1) →
+      Sound (stagedOf p w (p .header))
+  to-end body wide =
       record {
         stages = omega arith;
         unmarked = omega arith;
-        short = omega (arith, s .short);
+        short = omega (arith, s .short, wide);
         small = s .small;
         rising = s .rising;
         named = omega (arith, impossible);
       }
+
+-- the end has the bytes that the table gives its place
+end-wide : headerBytes headerLength + widthOf Command.End ≡ headerBytes (headerLength + 1)
+unfolding widthOf
+end-wide = refl
 
 module _ (p : Progress) (s : Sound p) where
   -- what the test of order says of a mark after others
@@ -82,7 +107,7 @@ module _ (p : Progress) (s : Sound p) where
   after (Command.Header c) a =
       let l = header-law (p .header) c in
       let o = in-order p (Command.Header c) (a .ordered) in
-      to-header p s _ (width-most (Command.Header c)) _ (omega (arith, o .0, l .early))
+      to-header p s _ (width-most (Command.Header c)) _ (omega (arith, o .0, l .early)) (rw (o .0, add-one) (l .wide))
       (l .small (a .ranged) (s .small))
   after (Command.Mark m k) a =
       let o = in-order p (Command.Mark m k) (a .ordered) in
@@ -92,7 +117,9 @@ module _ (p : Progress) (s : Sound p) where
   after (Command.Name m t) a =
       let o = in-order p (Command.Name m t) (a .ordered) in
       to-name p s _ (width-most (Command.Name m t)) (o .0) (and-eq-true-iff _ _ .0 (o .1) .0)
-  after Command.End a = to-end p s _ (width-most Command.End) (in-order p Command.End (a .ordered) .0)
+  after Command.End a =
+      let o = in-order p Command.End (a .ordered) in
+      to-end p s _ (width-most Command.End) (o .0) (rw (o .0) end-wide)
 
 pub sound-after : (p : Progress) (c : Command) → Sound p → commandCauseOf p c ≡ 0 → Sound (afterOf p c)
 sound-after p c s e = after p s c (allowed p c e)

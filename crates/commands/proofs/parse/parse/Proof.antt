@@ -10,7 +10,7 @@ use lib.Seq.{take-all, drop-cons}
 use Rattle.commands.specs.Bytes.{commandOf, parseOf}
 use Rattle.commands.specs.Command.{commandWith}
 use Rattle.commands.specs.inner.Table.{valuesOf, codeSize}
-use Rattle.commands.specs.Rows.{commandRows, rowOf, layoutOf, sizeOf}
+use Rattle.commands.specs.Rows.{commandRows, layoutOf, sizeOf}
 use Rattle.commands.proofs.Table.{row-sizes, row-small, row-widths, row-values, row-fits}
 use Rattle.commands.specs.declared.command.Operands.{Operands}
 use Rattle.commands.proofs.parse.parse.Statement.{statement}
