@@ -6,7 +6,7 @@ use mathlib.Core.Path.{_≡_, refl}
 use mathlib.Core.Bool.{Bool, true, false, cond, and-eq-true-iff}
 use lib.Dec.{eqb}
 use borrow.Author.Tests.{eqb-true}
-use Rattle.commands.specs.Cause.{placeOf, follows, inOrder, rangesHold, edgesHold, separate, inside}
+use Rattle.commands.specs.Cause.{stageOf, follows, inOrder, rangesHold, edgesHold, separate, inside}
 use Rattle.commands.specs.Cause.{commandCauseOf}
 use Rattle.commands.specs.declared.command.Command.{Command}
 use Rattle.commands.specs.declared.progress.Progress.{Progress}
@@ -16,8 +16,8 @@ passed : (b : Bool) (v n : ℕ) → cond b v (suc n) ≡ 0 → (b ≡ true) × (
 passed true v n e = (refl, e)
 passed false v n e = absurd (omega arith)
 
-pub in-order : (p : Progress) (c : Command) → inOrder p c ≡ true → (p .stage ≡ placeOf c) × (follows p c ≡ true)
-in-order p c e = let o = and-eq-true-iff (eqb (p .stage) (placeOf c)) _ .0 e in (eqb-true _ _ (o .0), o .1)
+pub in-order : (p : Progress) (c : Command) → inOrder p c ≡ true → (p .stage ≡ stageOf c) × (follows p c ≡ true)
+in-order p c e = let o = and-eq-true-iff (eqb (p .stage) (stageOf c)) _ .0 e in (eqb-true _ _ (o .0), o .1)
 
 pub record Allowed (p : Progress) (c : Command) : Type 0 where
   pub ordered : inOrder p c ≡ true

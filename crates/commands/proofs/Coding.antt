@@ -14,8 +14,8 @@ use Rattle.commands.specs.Number.{number, digits, AllBytes}
 use Rattle.commands.specs.Rows.{CommandOperand, widthIn, sizeOf, commandRows, layoutOf, known}
 use Rattle.commands.specs.Bytes.{joined, encodeOf, widthOf, operandsIn, commandOf, parseOf}
 use Rattle.commands.specs.Command.{commandByteOf, operandsOf}
-use Rattle.commands.specs.Fits.{FitsRow, Fits}
-use Rattle.commands.specs.Fits.FitsRow.{none, more}
+use Rattle.commands.specs.Fits.{FitsLayout, Fits}
+use Rattle.commands.specs.Fits.FitsLayout.{none, more}
 use Rattle.commands.specs.Progress.{afterOf}
 use Rattle.commands.specs.declared.command.Command.{Command}
 use Rattle.commands.specs.declared.command.Command.the-variants as Command
@@ -70,7 +70,7 @@ after-at p (Command.Name a t) = refl
 -- ---- the operands of a row
 
 -- what is joined is found again, whatever comes after it
-operands-joined : {row : List CommandOperand} {vs : List ℕ} → FitsRow row vs → (s : List ℕ) →
+operands-joined : {row : List CommandOperand} {vs : List ℕ} → FitsLayout row vs → (s : List ℕ) →
     operandsIn row (joined row vs ++ s) ≡ vs
 operands-joined none s = refl
 operands-joined (more {o} {os} {v} {vs} l f) s =
@@ -101,7 +101,7 @@ joined-operands (o ∷ os) s a room =
     )
 
 fits-operands : (row : List CommandOperand) (s : List ℕ) → AllBytes s → sizeOf row ≤ length s →
-    FitsRow row (operandsIn row s)
+    FitsLayout row (operandsIn row s)
 fits-operands [] s a room = none
 fits-operands (o ∷ os) s a room =
     let w = widthIn o in

@@ -12,7 +12,7 @@ use Rattle.commands.specs.Rows.{headerLength, between, layoutOf, known}
 use Rattle.commands.specs.Command.{commandByteOf, operandsOf, commandWith}
 use Rattle.commands.specs.Header.{headerWith, headerCommands}
 use Rattle.commands.specs.Bytes.{widthOf}
-use Rattle.commands.specs.Cause.{placeOf, rangesHold}
+use Rattle.commands.specs.Cause.{stageOf, rangesHold}
 use Rattle.commands.specs.inner.Sound.{headerBytes}
 use Rattle.commands.specs.declared.header.Window.{Window}
 use Rattle.commands.specs.declared.header.Header.{Header}
@@ -29,13 +29,13 @@ pub record Said (c : Command) : Type 0 where
 
 pub record HeaderLaw (h : Header) (c : HeaderCommand) : Type 0 where
   -- it comes before the marks
-  pub early : placeOf (Command.Header c) < headerLength
-  -- the commands up to its place state what the header has with it
-  pub stated : take (suc (placeOf (Command.Header c))) (headerCommands (headerWith h c))
-      ≡ take (placeOf (Command.Header c)) (headerCommands h) ++ (Command.Header c ∷ [])
-  -- it has the bytes that the table gives its place
-  pub wide : headerBytes (placeOf (Command.Header c)) + widthOf (Command.Header c)
-      ≡ headerBytes (suc (placeOf (Command.Header c)))
+  pub early : stageOf (Command.Header c) < headerLength
+  -- the commands up to its stage state what the header has with it
+  pub stated : take (suc (stageOf (Command.Header c))) (headerCommands (headerWith h c))
+      ≡ take (stageOf (Command.Header c)) (headerCommands h) ++ (Command.Header c ∷ [])
+  -- it has the bytes that the table gives its stage
+  pub wide : headerBytes (stageOf (Command.Header c)) + widthOf (Command.Header c)
+      ≡ headerBytes (suc (stageOf (Command.Header c)))
   -- the code window keeps to its range
   pub small : rangesHold (Command.Header c) ≡ true → h .code .length ≤ 4096 → headerWith h c .code .length ≤ 4096
 

@@ -92,7 +92,7 @@ module _ (p : Progress) (s : Sound p) (w : ℕ) (narrow : w ≤ 11) where
         named = omega (arith, impossible);
       }
 
--- the end has the bytes that the table gives its place
+-- the end has the bytes that the table gives its stage
 end-wide : headerBytes headerLength + widthOf Command.End ≡ headerBytes (headerLength + 1)
 unfolding widthOf
 end-wide = refl

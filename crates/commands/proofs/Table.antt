@@ -15,13 +15,12 @@ use Rattle.commands.specs.Rows.{CommandOperand, any, within, text, width
 use Rattle.commands.specs.Rows.{commandRows, rowOf, layoutOf}
 use Rattle.commands.specs.Bytes.{joined, operandsIn}
 use Rattle.commands.specs.Cause.{allInRange}
-use Rattle.commands.specs.declared.row.CommandRow.{CommandRow as CodeRow}
+use Rattle.commands.specs.declared.row.TableRow.{TableRow as CodeRow}
 use Rattle.commands.specs.declared.command.Operands.{Operands}
 use Rattle.commands.specs.inner.Table.{codeOperand, operandAt, codeRow, codeSize, codeValues, valuesIn, FitsCode}
 use Rattle.commands.specs.inner.Table.{inRangeCode, rangesHoldCode, Widths, Width, none, word, long, quad}
-use Rattle.commands.specs.inner.Extent.{OperandsOfWindow}
-use Rattle.commands.specs.declared.row.Extent.{Extent}
-use Rattle.commands.specs.declared.row.Extent.the-variants.{None, Window}
+use Rattle.commands.specs.declared.row.WindowStart.{WindowStart}
+use Rattle.commands.specs.declared.row.WindowStart.the-variants.{NoWindow, From}
 
 -- ---- the rows
 
@@ -34,22 +33,22 @@ allWide [] = true
 allWide (o ∷ os) = wide (widthIn o) && allWide os
 
 -- a window's start and length have two bytes
-windowed : Extent → List CommandOperand → Bool
-windowed None os = true
-windowed (Window least) os = eqb (operandAt os 0 .width) 2 && eqb (operandAt os 1 .width) 2
+windowed : WindowStart → List CommandOperand → Bool
+windowed NoWindow os = true
+windowed (From least) os = eqb (operandAt os 0 .width) 2 && eqb (operandAt os 1 .width) 2
 
 -- what the code takes for granted of a row: at most four operands of such widths, of at most ten bytes
 taken : CommandRow → Bool
 taken r =
     let os = r .operands in
-    leb (length os) 4 && (allWide os && (leb (sizeOf os) 10 && windowed (r .extent) os))
+    leb (length os) 4 && (allWide os && (leb (sizeOf os) 10 && windowed (r .window) os))
 
 allTaken : List CommandRow → Bool
 allTaken [] = true
 allTaken (r ∷ rs) = taken r && allTaken rs
 
 abbrev blankRow : CommandRow
-blankRow = record { place = 0; extent = None; operands = [] }
+blankRow = record { stage = 0; window = NoWindow; operands = [] }
 
 taken-at : (rs : List CommandRow) → allTaken rs ≡ true → (b : ℕ) → taken (getD rs b blankRow) ≡ true
 unfolding taken allTaken allWide windowed
@@ -61,7 +60,7 @@ record Taken (b : ℕ) : Type 0 where
   short : length (layoutOf b) ≤ 4
   wides : allWide (layoutOf b) ≡ true
   sized : sizeOf (layoutOf b) ≤ 10
-  windows : windowed (rowOf b .extent) (layoutOf b) ≡ true
+  windows : windowed (rowOf b .window) (layoutOf b) ≡ true
 
 -- the test of the whole table
 row-taken : (b : ℕ) → Taken b
@@ -121,8 +120,8 @@ size-code (o ∷ p ∷ q ∷ []) l = simp operand-width (omega arith)
 size-code (o ∷ p ∷ q ∷ r ∷ []) l = simp operand-width (omega arith)
 size-code (o ∷ p ∷ q ∷ r ∷ t ∷ os) l = absurd (omega arith)
 
-values-code : (n : ℕ) (x : Extent) (os : List CommandOperand) (s : List ℕ) → length os ≤ 4 →
-    valuesIn (codeRow (record { place = n; extent = x; operands = os })) s ≡ codeValues (operandsIn os s)
+values-code : (n : ℕ) (x : WindowStart) (os : List CommandOperand) (s : List ℕ) → length os ≤ 4 →
+    valuesIn (codeRow (record { stage = n; window = x; operands = os })) s ≡ codeValues (operandsIn os s)
 values-code n x [] s l = refl
 values-code n x (o ∷ []) s l = simp operand-width
 values-code n x (o ∷ p ∷ []) s l = simp operand-width
@@ -186,14 +185,18 @@ ranges-code (one (one (one (one (one m))))) l h = absurd (omega arith)
 
 -- ---- windows
 
+abbrev pub OperandsOfWindow : WindowStart → Operands → Type 0
+OperandsOfWindow NoWindow v = Unit
+OperandsOfWindow (From least) v = (v .first < 65536) × (v .second < 65536)
+
 two-bytes : (w v : ℕ) → w ≡ 2 → v < 256 ^ w → v < 65536
 two-bytes w v e h = rw e at h
 
-window-fits : (x : Extent) (os : List CommandOperand) → windowed x os ≡ true → (v : Operands)
+window-fits : (x : WindowStart) (os : List CommandOperand) → windowed x os ≡ true → (v : Operands)
     → v .first < 256 ^ operandAt os 0 .width → v .second < 256 ^ operandAt os 1 .width → OperandsOfWindow x v
 unfolding windowed
-window-fits None os t v f g = tt
-window-fits (Window least) os t v f g =
+window-fits NoWindow os t v f g = tt
+window-fits (From least) os t v f g =
     let e = and-eq-true-iff _ _ .0 t in
     (two-bytes _ _ (eqb-true _ _ (e .0)) f, two-bytes _ _ (eqb-true _ _ (e .1)) g)
 
@@ -211,15 +214,15 @@ module _ (b : ℕ) (row : CodeRow) (e : row ≡ codeRow (rowOf b)) where
   row-small = rw row-sizes (row-size b)
 
   pub row-values : (s : List ℕ) → valuesIn row s ≡ codeValues (operandsIn (layoutOf b) s)
-  row-values s = rw e (values-code (rowOf b .place) (rowOf b .extent) (layoutOf b) s (row-short b))
+  row-values s = rw e (values-code (rowOf b .stage) (rowOf b .window) (layoutOf b) s (row-short b))
 
   pub row-fits : (v : Operands) → FitsCode row v → FitsCode (codeRow (rowOf b)) v
   row-fits v f = subst (λ (r : CodeRow). FitsCode r v) e f
 
-  pub row-window : (v : Operands) → FitsCode row v → OperandsOfWindow (row .extent) v
+  pub row-window : (v : Operands) → FitsCode row v → OperandsOfWindow (row .window) v
   row-window v f =
       let fits = row-fits v f in
-      rw e (window-fits (rowOf b .extent) (layoutOf b) (row-taken b .windows) v (fits .0) (fits .1))
+      rw e (window-fits (rowOf b .window) (layoutOf b) (row-taken b .windows) v (fits .0) (fits .1))
 
   module _ (vs : List ℕ) (same : length vs ≡ length (layoutOf b)) (v : Operands) (f : v ≡ codeValues vs) where
     pub row-joined :

@@ -13,7 +13,7 @@ use Rattle.commands.specs.declared.command.Command.{Command}
 use Rattle.commands.specs.declared.parse.ParsedCommand.{ParsedCommand}
 use Rattle.commands.specs.declared.parse.ParsedCommand.the-variants.{Unknown, Cut, Found}
 
--- some operands by the widths of a row
+-- some operands by the widths of a layout
 abbrev pub joined : List CommandOperand → List ℕ → List ℕ
 joined [] vs = []
 joined (o ∷ os) [] = []
@@ -25,7 +25,7 @@ encodeOf c = commandByteOf c ∷ joined (layoutOf (commandByteOf c)) (operandsOf
 unfoldable pub widthOf : Command → ℕ
 widthOf c = 1 + sizeOf (layoutOf (commandByteOf c))
 
--- the operands of a row that some bytes begin with
+-- the operands of a layout that some bytes begin with
 abbrev pub operandsIn : List CommandOperand → List ℕ → List ℕ
 operandsIn [] s = []
 operandsIn (o ∷ os) s = number (take (widthIn o) s) ∷ operandsIn os (drop (widthIn o) s)

@@ -7,10 +7,10 @@ use Rattle.commands.specs.Rows.{CommandOperand, widthIn, layoutOf}
 use Rattle.commands.specs.Command.{commandByteOf, operandsOf}
 use Rattle.commands.specs.declared.command.Command.{Command}
 
-pub data FitsRow : List CommandOperand → List ℕ → Type 0 where
-  none : FitsRow [] []
-  more : {o : CommandOperand} {os : List CommandOperand} {v : ℕ} {vs : List ℕ} → v < 256 ^ widthIn o → FitsRow os vs →
-      FitsRow (o ∷ os) (v ∷ vs)
+pub data FitsLayout : List CommandOperand → List ℕ → Type 0 where
+  none : FitsLayout [] []
+  more : {o : CommandOperand} {os : List CommandOperand} {v : ℕ} {vs : List ℕ} → v < 256 ^ widthIn o → FitsLayout os vs →
+      FitsLayout (o ∷ os) (v ∷ vs)
 
 abbrev pub Fits : Command → Type 0
-Fits c = FitsRow (layoutOf (commandByteOf c)) (operandsOf c)
+Fits c = FitsLayout (layoutOf (commandByteOf c)) (operandsOf c)

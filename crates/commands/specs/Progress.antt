@@ -47,6 +47,6 @@ afterWidth width p Command.End = stagedOf p width (p .header)
 unfoldable pub afterOf : Progress → Command → Progress
 afterOf p c = afterWidth (widthOf c) p c
 
--- the end is the last command
+-- whether the latest command is the end
 abbrev pub ended : Progress → Bool
 ended p = eqb (p .stage) (headerLength + 1)

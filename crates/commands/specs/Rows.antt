@@ -1,4 +1,5 @@
--- The table of commands: their order, and their operands with widths and ranges (document 01, "The ticket").
+-- The table of commands: their order, which are windows, and their operands with widths and ranges (document 01, "The
+-- ticket").
 -- Assumes nothing.
 use Prim.Native.Nat.{ℕ, _+_}
 use mathlib.Core.Bool.{Bool, true, _&&_}
@@ -6,8 +7,8 @@ use mathlib.Core.List.{List, [], _∷_}
 use lib.Dec.{ltb, leb}
 use lib.ListN.{getD, length}
 use Rattle.commands.specs.Number.{digits}
-use Rattle.commands.specs.declared.row.Extent.{Extent}
-use Rattle.commands.specs.declared.row.Extent.the-variants.{None, Window}
+use Rattle.commands.specs.declared.row.WindowStart.{WindowStart}
+use Rattle.commands.specs.declared.row.WindowStart.the-variants.{NoWindow, From}
 
 -- an operand: its width, and its range if it has one
 pub data CommandOperand : Type 0 where
@@ -20,7 +21,7 @@ widthIn (any w) = w
 widthIn (within w l m) = w
 widthIn (text w) = w
 
--- how many bytes the operands of a row have
+-- how many bytes some operands have
 abbrev pub sizeOf : List CommandOperand → ℕ
 sizeOf [] = 0
 sizeOf (o ∷ os) = widthIn o + sizeOf os
@@ -38,38 +39,38 @@ inRange (any w) v = true
 inRange (within w l m) v = between l m v
 inRange (text w) v = printable (digits w v)
 
--- how many commands of the header come before it; whether its first two operands are a window's start and length, which
--- then starts at some address or later; its operands
+-- `stage`: how many commands of the header come before it; `window`: whether its first two operands are a window's
+-- start and length and, if so, the least address at which that window may start
 pub record CommandRow : Type 0 where
-  pub place : ℕ
-  pub extent : Extent
+  pub stage : ℕ
+  pub window : WindowStart
   pub operands : List CommandOperand
 
 -- by the command's byte
 abbrev pub commandRows : List CommandRow
 commandRows =
     -- $00 end
-    record { place = 4; extent = None; operands = [] }
+    record { stage = 4; window = NoWindow; operands = [] }
     -- $01 code window: start, length
-    ∷ record { place = 0; extent = Window 1; operands = any 2 ∷ within 2 1 4096 ∷ [] }
+    ∷ record { stage = 0; window = From 1; operands = any 2 ∷ within 2 1 4096 ∷ [] }
     -- $02 data window: start, length
-    ∷ record { place = 1; extent = Window 0; operands = any 2 ∷ within 2 0 8192 ∷ [] }
+    ∷ record { stage = 1; window = From 0; operands = any 2 ∷ within 2 0 8192 ∷ [] }
     -- $03 stack window: start, length
-    ∷ record { place = 2; extent = Window 1; operands = any 2 ∷ within 2 2 1024 ∷ [] }
+    ∷ record { stage = 2; window = From 1; operands = any 2 ∷ within 2 2 1024 ∷ [] }
     -- $04 entry: address, cycle limit
-    ∷ record { place = 3; extent = None; operands = any 2 ∷ within 4 1 2000000 ∷ [] }
+    ∷ record { stage = 3; window = NoWindow; operands = any 2 ∷ within 4 1 2000000 ∷ [] }
     -- $05 mark: address, cost, depth, need
     ∷ record {
-      place = 4;
-      extent = None;
+      stage = 4;
+      window = NoWindow;
       operands = any 2 ∷ within 4 0 2000000 ∷ within 2 0 1022 ∷ within 2 0 1022 ∷ [];
     }
     -- $06 name: address, text
-    ∷ record { place = 4; extent = None; operands = any 2 ∷ text 8 ∷ [] }
+    ∷ record { stage = 4; window = NoWindow; operands = any 2 ∷ text 8 ∷ [] }
     ∷ []
 
 abbrev pub rowOf : ℕ → CommandRow
-rowOf b = getD commandRows b (record { place = 0; extent = None; operands = [] })
+rowOf b = getD commandRows b (record { stage = 0; window = NoWindow; operands = [] })
 
 -- the operands of the command with a byte
 abbrev pub layoutOf : ℕ → List CommandOperand
@@ -77,7 +78,7 @@ layoutOf b = rowOf b .operands
 
 -- how many commands a header has: all of them come before the end
 abbrev pub headerLength : ℕ
-headerLength = rowOf 0x00 .place
+headerLength = rowOf 0x00 .stage
 
 abbrev pub known : ℕ → Bool
 known b = ltb b (length commandRows)

@@ -1,3 +1,3 @@
-pub mod Extent
+pub mod WindowCause
 pub mod Table
 pub mod Sound

@@ -70,7 +70,7 @@ fn after(p: Progress, c: Command) -> Progress
     let h = p.header;
     let width = width_of(c);
     match c {
-        Command::Header(s) => staged(p, width, header_with(h, s)),
+        Command::Header(part) => staged(p, width, header_with(h, part)),
         Command::Mark(a, _) => marked(p, width, a),
         Command::Name(_, _) => named(p, width),
         Command::End => staged(p, width, h),

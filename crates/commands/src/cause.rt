@@ -2,10 +2,10 @@
 ghost use mathlib.Core.Path.{_≡_};
 ghost use Rattle.commands.specs.Rows.{between, printable};
 ghost use Rattle.commands.specs.Number.{digits};
-ghost use Rattle.commands.specs.Cause.{follows, inOrder, rangesHold, extentHolds, apart, apartIn, inside};
+ghost use Rattle.commands.specs.Cause.{follows, inOrder, rangesHold, edgesWithin, apart, apartFrom, inside};
 ghost use Rattle.commands.specs.Cause.{commandCauseOf};
 ghost use Rattle.commands.specs.inner.Table.{inRangeCode};
-ghost use Rattle.commands.specs.inner.Extent.{extentCauseOf};
+ghost use Rattle.commands.specs.inner.WindowCause.{windowCauseOf};
 use crate::command::Command;
 use crate::command::byte_of;
 use crate::command::operands_of;
@@ -15,10 +15,11 @@ use crate::header::Window;
 use crate::header::holds;
 use crate::header::past;
 use crate::progress::Progress;
-use crate::row::CommandOperand;
-use crate::row::Extent;
+use crate::row::TableOperand;
+use crate::row::WindowStart;
 use crate::row::row_of;
 
+// Marks rise; a name stands at once after its mark.
 fn follows(p: Progress, c: Command) -> bool
     ensures { λ r. ⌜ r ≡ follows p c ⌝ }
 {
@@ -30,10 +31,11 @@ fn follows(p: Progress, c: Command) -> bool
     }
 }
 
+// The header's commands in their order, before all others.
 fn in_order(p: Progress, c: Command) -> bool
     ensures { λ r. ⌜ r ≡ inOrder p c ⌝ }
 {
-    (p.stage == row_of(byte_of(c)).place) & follows(p, c)
+    (p.stage == row_of(byte_of(c)).stage) & follows(p, c)
 }
 
 fn between(least: u64, most: u64, v: u64) -> bool
@@ -59,7 +61,7 @@ fn printable(text: u64, width: usize) -> bool
     true
 }
 
-fn in_range(o: CommandOperand, v: u64) -> bool
+fn in_range(o: TableOperand, v: u64) -> bool
     ensures { λ r. ⌜ r ≡ inRangeCode o v ⌝ }
 {
     if o.text {
@@ -82,8 +84,8 @@ fn ranges_hold(c: Command) -> bool
         & (in_range(second, v.second) & (in_range(third, v.third) & in_range(fourth, v.fourth)))
 }
 
-fn edges_hold(w: Window, least: u16) -> bool
-    ensures { λ r. ⌜ r ≡ extentHolds (Extent.Window least) w ⌝ }
+fn edges_within(w: Window, least: u16) -> bool
+    ensures { λ r. ⌜ r ≡ edgesWithin least w ⌝ }
 {
     (past(w) <= 65536) & (least <= w.start)
 }
@@ -96,8 +98,8 @@ fn apart(v: Window, w: Window) -> bool
         | ((past(v) <= (w.start as u32)) | (past(w) <= (v.start as u32)))
 }
 
-fn separate(h: Header, w: Window) -> bool
-    ensures { λ r. ⌜ r ≡ apartIn h (Extent.Window 0) w ⌝ }
+fn apart_from(h: Header, w: Window) -> bool
+    ensures { λ r. ⌜ r ≡ apartFrom h w ⌝ }
 {
     let code = h.code;
     let data = h.data;
@@ -106,19 +108,19 @@ fn separate(h: Header, w: Window) -> bool
 }
 
 // 5 or 6 of a window, or 0.
-fn extent_cause(h: Header, c: Command) -> u8
-    ensures { λ r. ⌜ r ≡ extentCauseOf h c ⌝ }
+fn window_cause(h: Header, c: Command) -> u8
+    ensures { λ r. ⌜ r ≡ windowCauseOf h c ⌝ }
 {
     let row = row_of(byte_of(c));
-    let extent = row.extent;
-    match extent {
-        Extent::None => 0,
-        Extent::Window(least) => {
+    let start = row.window;
+    match start {
+        WindowStart::NoWindow => 0,
+        WindowStart::From(least) => {
             let w = window(operands_of(c));
-            if !edges_hold(w, least) {
+            if !edges_within(w, least) {
                 return 5;
             }
-            if !separate(h, w) {
+            if !apart_from(h, w) {
                 return 6;
             }
             0
@@ -149,7 +151,7 @@ pub fn cause(p: Progress, c: Command) -> u8
     if !ranges_hold(c) {
         return 4;
     }
-    let number = extent_cause(h, c);
+    let number = window_cause(h, c);
     if number != 0 {
         return number;
     }

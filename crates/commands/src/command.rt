@@ -57,7 +57,7 @@ pub fn byte_of(c: Command) -> u8
 {
     match c {
         Command::End => 0x00,
-        Command::Header(h) => header_byte(h),
+        Command::Header(part) => header_byte(part),
         Command::Mark(_, _) => 0x05,
         Command::Name(_, _) => 0x06,
     }
@@ -97,7 +97,7 @@ pub fn operands_of(c: Command) -> Operands
 {
     match c {
         Command::End => pair(0, 0),
-        Command::Header(h) => header_operands(h),
+        Command::Header(part) => header_operands(part),
         Command::Mark(a, k) => {
             let cost = k.cost;
             let depth = k.depth;
@@ -143,6 +143,6 @@ pub fn command_with(b: u8, v: Operands) -> Command
                 need: StackBytes(v.fourth as u16),
             },
         ),
-        _ => Command::Name(v.first as u16, v.second),
+        _ => Command::Name(v.first as u16, v.second), // 0x06
     }
 }

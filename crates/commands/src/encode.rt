@@ -8,7 +8,6 @@ use crate::command::Command;
 use crate::command::byte_of;
 use crate::command::operands_of;
 use crate::number::put_number;
-use crate::row::CommandOperand;
 use crate::row::row_of;
 use crate::row::size;
 

@@ -75,19 +75,19 @@ pub fn header_with(h: Header, c: HeaderCommand) -> Header
     after
 }
 
-// The commands that state a header, by their place.
-pub fn header_command(h: Header, place: u8) -> Command
-    requires { ⌜ place < headerLength ⌝ }
-    ensures { λ r. ⌜ (r ≡ getD (headerCommands h) place Command.End) × Fits r ⌝ }
+// The command that states a part of a header, by its stage.
+pub fn header_command(h: Header, stage: u8) -> Command
+    requires { ⌜ stage < headerLength ⌝ }
+    ensures { λ r. ⌜ (r ≡ getD (headerCommands h) stage Command.End) × Fits r ⌝ }
 {
     let code = h.code;
     let data = h.data;
     let stack = h.stack;
     let limit = h.limit;
-    match place {
+    match stage {
         0 => Command::Header(HeaderCommand::Code(code)),
         1 => Command::Header(HeaderCommand::Data(data)),
         2 => Command::Header(HeaderCommand::Stack(stack)),
-        _ => Command::Header(HeaderCommand::Entry(h.entry, limit)),
+        _ => Command::Header(HeaderCommand::Entry(h.entry, limit)), // 3
     }
 }

@@ -3,7 +3,7 @@
 pub mod header; // windows, and what $01 to $04 say
 pub mod command; // the commands
 pub mod row; // the table of commands
-mod number; // numbers of two, four and eight bytes
+mod number; // numbers of no, two, four and eight bytes
 pub mod parse; // a command of bytes
 pub mod encode; // the bytes of a command
 pub mod progress; // what the commands so far leave for the next

@@ -9,7 +9,7 @@ use crate::command::Operands;
 use crate::command::command_with;
 use crate::number::number;
 use crate::row::COMMANDS;
-use crate::row::CommandRow;
+use crate::row::TableRow;
 use crate::row::row_of;
 use crate::row::size;
 
@@ -21,7 +21,7 @@ pub enum ParsedCommand {
 }
 
 // The operands of a row that bytes begin with.
-fn operands_in(row: CommandRow, s: &[u8]) -> Operands
+fn operands_in(row: TableRow, s: &[u8]) -> Operands
     requires { ⌜ Widths row × (codeSize row ≤ length (now s)) × (codeSize row ≤ 10) ⌝ }
     ensures { λ r. ⌜ (r ≡ valuesIn row (now (s .entry))) × FitsCode row r ⌝ }
 {

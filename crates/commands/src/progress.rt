@@ -2,7 +2,7 @@
 ghost use mathlib.Core.Path.{_≡_};
 ghost use Rattle.commands.specs.Progress.{initialProgress, ended};
 use crate::header::Header;
-use crate::row::HEADER;
+use crate::row::HEADER_COMMANDS;
 
 pub struct Progress {
     pub at: u32, // the offset of the next command
@@ -31,5 +31,5 @@ pub fn initial() -> Progress
 pub fn ended(p: Progress) -> bool
     ensures { λ r. ⌜ r ≡ ended p ⌝ }
 {
-    p.stage == HEADER + 1
+    p.stage == HEADER_COMMANDS + 1
 }

@@ -9,7 +9,7 @@ use Rattle.commands.specs.declared.command.Command.the-variants as Command
 use Rattle.commands.specs.Every.{none, more}
 use Rattle.commands.specs.Header.{headerCommands}
 use Rattle.commands.specs.Fits.{Fits}
-use Rattle.commands.specs.Fits.FitsRow.{none as no-operand, more as operand}
+use Rattle.commands.specs.Fits.FitsLayout.{none as no-operand, more as operand}
 use Rattle.ticket.specs.declared.fields.Mark.{Mark}
 use Rattle.ticket.specs.Fields.{Fields, blankMark, markIndex, listed}
 use Rattle.ticket.specs.Write.{commandsAt, markCommands, commandsOf}

@@ -1,4 +1,4 @@
--- The commands of a header up to a place, and one more.
+-- The commands of a header up to a stage, and one more.
 -- Assumes nothing.
 use mathlib.Core.Path.{_≡_, sym, ap, _∙_}
 use Prim.Native.Nat.{ℕ, _+_, _≤_, _<_}
@@ -24,7 +24,7 @@ use Rattle.ticket.proofs.Checks.{all-append}
 use Rattle.ticket.proofs.Fitting.{fit-append}
 use Rattle.ticket.proofs.Parts.{encode-append}
 
--- the commands before a place, and the one at it
+-- the commands before a stage, and the one at it
 abbrev pub commandsBefore : Header → ℕ → List Command
 commandsBefore h n = take n (headerCommands h)
 
@@ -46,7 +46,7 @@ module _ (h : Header) (n : ℕ) (l : n < headerLength) where
   bytes-more =
       ap encodeAll header-more ∙ (encode-append (commandsBefore h n) (commandAt h n ∷ []) ∙ rw append-nil)
 
-  -- after the commands before it there is room for the one at a place
+  -- after the commands before it there is room for the one at a stage
   pub header-room : length (encodeAll (commandsBefore h n)) + widthOf (commandAt h n)
       ≤ length (encodeAll (headerCommands h))
   header-room =

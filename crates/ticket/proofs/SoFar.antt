@@ -14,7 +14,7 @@ use Rattle.commands.specs.declared.command.Command.the-variants as Command
 use Rattle.commands.specs.declared.command.HeaderCommand.{HeaderCommand}
 use Rattle.commands.specs.declared.header.Header.{Header}
 use Rattle.commands.specs.declared.progress.Progress.{Progress}
-use Rattle.commands.specs.Cause.{placeOf, inOrder, commandCauseOf}
+use Rattle.commands.specs.Cause.{stageOf, inOrder, commandCauseOf}
 use Rattle.commands.specs.Bytes.{widthOf}
 use Rattle.commands.specs.Progress.{initialProgress, stagedOf, namedOf, afterOf, ended}
 use Rattle.commands.specs.inner.Sound.{Sound}
@@ -75,12 +75,12 @@ module _ (p : Progress) where
   no-marks : (ms : List Mark) → Consistent p ms → p .stage < headerLength → ms ≡ []
   no-marks ms k h = empty ms (omega (arith, k .sound .unmarked h, k .counted))
 
-  said-header : (ms : List Mark) → Consistent p ms → (c : HeaderCommand) (n : ℕ) → p .stage ≡ placeOf (Command.Header c)
+  said-header : (ms : List Mark) → Consistent p ms → (c : HeaderCommand) (n : ℕ) → p .stage ≡ stageOf (Command.Header c)
       → soFar (stagedOf p n (headerWith (p .header) c)) ms ≡ soFar p ms ++ (Command.Header c ∷ [])
   said-header ms k c n e =
       let l = header-law (p .header) c in
       rw (no-marks ms k (omega (arith, l .early)), e)
-      (one-more (placeOf (Command.Header c)) (headerCommands (p .header)) (headerCommands (headerWith (p .header) c))
+      (one-more (stageOf (Command.Header c)) (headerCommands (p .header)) (headerCommands (headerWith (p .header) c))
       (Command.Header c) (l .early) (l .stated))
 
   -- the latest mark has no name yet, and the name's address is its own

@@ -20,7 +20,7 @@ use commands::encode::put_command;
 use commands::header::Header;
 use commands::header::header_command;
 use commands::progress::initial;
-use commands::row::HEADER;
+use commands::row::HEADER_COMMANDS;
 
 // Where entry i of a list of marks stands. Past the array's end its last entry stands again, which is refused as a mark
 // that does not rise.
@@ -34,10 +34,10 @@ fn header_checked(h: Header) -> Admitted
     ensures { λ r. ⌜ (r ≡ allThen (Admitted.Next initialProgress) (headerCommands h)) × AllFit (headerCommands h) ⌝ }
 {
     let mut a = Admitted::Next(initial());
-    let mut place = 0;
-    while place < HEADER {
-        a = then(a, header_command(h, place));
-        place += 1;
+    let mut stage = 0;
+    while stage < HEADER_COMMANDS {
+        a = then(a, header_command(h, stage));
+        stage += 1;
     }
     a
 }
@@ -80,10 +80,10 @@ fn put_header(h: Header, out: &mut [u8]) -> usize
         × (r ≡ length (encodeAll (headerCommands h))) ⌝ }
 {
     let mut at = 0;
-    let mut place = 0;
-    while place < HEADER {
-        at = put_command(header_command(h, place), out, at);
-        place += 1;
+    let mut stage = 0;
+    while stage < HEADER_COMMANDS {
+        at = put_command(header_command(h, stage), out, at);
+        stage += 1;
     }
     at
 }

@@ -13,10 +13,11 @@ use Rattle.commands.specs.declared.progress.Progress.{Progress}
 use Rattle.commands.specs.declared.admit.Admitted.{Admitted}
 use Rattle.commands.specs.declared.admit.Admitted.the-variants.{Refused, Next}
 
--- the bytes of the first command of some rows that has a place
+-- the bytes of a command of the first of some rows that has this stage; of the three that come after the header the
+-- end is the first
 abbrev pub widthAt : List CommandRow → ℕ → ℕ
 widthAt [] n = 0
-widthAt (r ∷ rs) n = cond (eqb (r .place) n) (1 + sizeOf (r .operands)) (widthAt rs n)
+widthAt (r ∷ rs) n = cond (eqb (r .stage) n) (1 + sizeOf (r .operands)) (widthAt rs n)
 
 -- the bytes of as many commands of the header, and of the end after them
 abbrev pub headerBytes : ℕ → ℕ

@@ -6,8 +6,8 @@ use mathlib.Core.List.{List, [], _∷_}
 use lib.ListN.{getD, take, drop}
 use Rattle.commands.specs.Number.{number, digits}
 use Rattle.commands.specs.Rows.{CommandOperand, any, within, text, between, printable, CommandRow}
-use Rattle.commands.specs.declared.row.CommandOperand.{CommandOperand as CodeOperand}
-use Rattle.commands.specs.declared.row.CommandRow.{CommandRow as CodeRow}
+use Rattle.commands.specs.declared.row.TableOperand.{TableOperand as CodeOperand}
+use Rattle.commands.specs.declared.row.TableRow.{TableRow as CodeRow}
 use Rattle.commands.specs.declared.command.Operands.{Operands}
 
 abbrev pub codeOperand : CommandOperand → CodeOperand
@@ -27,8 +27,8 @@ abbrev pub codeRow : CommandRow → CodeRow
 codeRow r =
     let os = r .operands in
     record {
-      place = r .place;
-      extent = r .extent;
+      stage = r .stage;
+      window = r .window;
       first = operandAt os 0;
       second = operandAt os 1;
       third = operandAt os 2;

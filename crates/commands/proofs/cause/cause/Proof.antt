@@ -4,7 +4,7 @@ use Prim.Native.Nat.{ℕ}
 use mathlib.Core.Path.{_≡_, sym, _∙_}
 use mathlib.Core.Bool.{true, cond}
 use Rattle.commands.specs.Cause.{inOrder, rangesHold, edgesHold, separate, inside, commandCauseOf}
-use Rattle.commands.specs.inner.Extent.{extentCauseOf}
+use Rattle.commands.specs.inner.WindowCause.{windowCauseOf}
 use Rattle.commands.specs.declared.command.Command.{Command}
 use Rattle.commands.specs.declared.progress.Progress.{Progress}
 use Rattle.commands.proofs.Tests.{fails, passes, stops, clear}
@@ -13,15 +13,15 @@ use Rattle.commands.proofs.cause.cause.Statement.{statement}
 use Rattle.commands.proofs.cause.cause.Tie as tie
 
 -- after the tests of order and of ranges: the window's, and then whether a mark lies in the code window
-module _ (p : Progress) (c : Command) (o : inOrder p c ≡ true) (r : rangesHold c ≡ true) (n : ℕ) (e : n ≡ extentCauseOf
+module _ (p : Progress) (c : Command) (o : inOrder p c ≡ true) (r : rangesHold c ≡ true) (n : ℕ) (e : n ≡ windowCauseOf
     (p .header) c) where
   stopped : (n ≡ 0 → ⊥) → n ≡ commandCauseOf p c
-  unfolding commandCauseOf extentCauseOf
+  unfolding commandCauseOf windowCauseOf
   stopped z =
       rw (o, r) (e ∙ stops (edgesHold c) (separate (p .header) c) (cond (inside (p .header) c) 0 7) (λ t. z (e ∙ t)))
 
   cleared : n ≡ 0 → cond (inside (p .header) c) 0 7 ≡ commandCauseOf p c
-  unfolding commandCauseOf extentCauseOf
+  unfolding commandCauseOf windowCauseOf
   cleared z = let w = clear (edgesHold c) (separate (p .header) c) (sym e ∙ z) in rw (o, r, w .0, w .1)
 
 returns : tie.Need-returns
@@ -39,7 +39,7 @@ returns-2 c =
     )
 
 -- the tests up to the window's
-module _ (c : tie.After-extent-cause) where
+module _ (c : tie.After-window-cause) where
   abbrev start : tie.Start
   start = c .before .before .before .before .before .before
 
@@ -52,14 +52,14 @@ module _ (c : tie.After-extent-cause) where
 returns-3 : tie.Need-returns-3
 returns-3 c =
     let w = c .before in
-    stopped (start w .args .p) (start w .args .c) (ordered w) (ranged w) _ (w .extent-cause .ensures) (c .if3 .taken)
+    stopped (start w .args .p) (start w .args .c) (ordered w) (ranged w) _ (w .window-cause .ensures) (c .if3 .taken)
 
 -- where no test has failed, the last is whether a mark lies in the code window
 last-test : (c : tie.Else3) → let s = start (c .before) in cond (inside (s .args .p .header) (s .args .c)) 0 7
     ≡ commandCauseOf (s .args .p) (s .args .c)
 last-test c =
     let w = c .before in
-    cleared (start w .args .p) (start w .args .c) (ordered w) (ranged w) _ (w .extent-cause .ensures) (c .if3 .left)
+    cleared (start w .args .p) (start w .args .c) (ordered w) (ranged w) _ (w .window-cause .ensures) (c .if3 .left)
 
 returns-4 : tie.Need-returns-4
 returns-4 c = rw (← last-test (c .before .before), fails (c .before .inside .ensures) (c .if4 .taken))

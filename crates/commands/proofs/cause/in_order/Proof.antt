@@ -1,4 +1,4 @@
--- `in_order` meets its contract: the place is that of the command's row.
+-- `in_order` meets its contract: the stage is that of the command's row.
 -- Assumes nothing.
 use borrow.Author.Tests.{ltb-true}
 use Rattle.commands.proofs.Coding.{said}

@@ -13,7 +13,7 @@ use Rattle.commands.specs.Rows.{rowOf, layoutOf, sizeOf}
 use Rattle.commands.specs.Bytes.{encodeOf, widthOf}
 use Rattle.commands.specs.Command.{commandByteOf, operandsOf}
 use Rattle.commands.specs.declared.command.Command.{Command}
-use Rattle.commands.specs.declared.row.CommandRow.{CommandRow as CodeRow}
+use Rattle.commands.specs.declared.row.TableRow.{TableRow as CodeRow}
 use Rattle.commands.specs.inner.Table.{codeRow, codeSize, Widths}
 use Rattle.commands.proofs.Coding.{said}
 use Rattle.commands.specs.declared.command.Operands.{Operands}

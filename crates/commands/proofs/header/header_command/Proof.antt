@@ -1,4 +1,4 @@
--- `header_command` meets its contract: by the place that was matched. That the operands fit is the ranges of the types.
+-- `header_command` meets its contract: by the stage that was matched. That the operands fit is the ranges of the types.
 -- Assumes nothing.
 use Prim.Native.Nat.{ℕ, _<_}
 use mathlib.Core.Path.{_≡_, refl}
@@ -6,18 +6,18 @@ use native.Mathlib.Omega.{arith}
 use Rattle.registers.specs.declared.Cycles.{Cycles}
 use Rattle.commands.specs.Rows.{headerLength}
 use Rattle.commands.specs.Fits.{Fits}
-use Rattle.commands.specs.Fits.FitsRow.{none, more}
+use Rattle.commands.specs.Fits.FitsLayout.{none, more}
 use Rattle.commands.specs.declared.header.Window.{Window}
 use Rattle.commands.specs.declared.command.HeaderCommand.the-variants.{Code, Data, Stack, Entry}
 use Rattle.commands.specs.declared.command.Command.the-variants as Command
 use Rattle.commands.proofs.header.header_command.Statement.{statement}
 use Rattle.commands.proofs.header.header_command.Tie as tie
 
--- the place without an arm of its own
-last : (c : tie.At-match-rest) → c .before .before .before .before .before .args .place ≡ 3
+-- the stage without an arm of its own
+last : (c : tie.At-match-rest) → c .before .before .before .before .before .args .stage ≡ 3
 last c =
     let s = c .before .before .before .before .before in
-    let early : s .args .place < headerLength = s .pre in
+    let early : s .args .stage < headerLength = s .pre in
     omega arith
 
 code-fits : (w : Window) → w .start < 65536 → w .length < 65536 → Fits (Command.Header (Code w))

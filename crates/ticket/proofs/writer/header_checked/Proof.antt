@@ -16,11 +16,11 @@ use Rattle.ticket.proofs.writer.header_checked.Statement.{statement}
 use Rattle.ticket.proofs.writer.header_checked.Tie as tie
 
 abbrev Inv-loop : tie.InvT-loop
-Inv-loop h a₀ place₀ a place =
-    SoundSoFar a × (a ≡ allThen a₀ (commandsBefore h place)) × AllFit (commandsBefore h place) × (place ≤ headerLength)
+Inv-loop h a₀ stage₀ a stage =
+    SoundSoFar a × (a ≡ allThen a₀ (commandsBefore h stage)) × AllFit (commandsBefore h stage) × (stage ≤ headerLength)
 
 abbrev μ-loop : tie.MeasureT-loop
-μ-loop h a₀ place₀ a place = headerLength - place
+μ-loop h a₀ stage₀ a stage = headerLength - stage
 
 loop-holds : tie.Need-loop-holds Inv-loop μ-loop
 loop-holds c = (rw (c .initial .ensures) (sound sound-start), refl, none, omega arith)
@@ -33,15 +33,15 @@ loop-again c =
     let h = at-loop .before .before .args .h in
     let early = c .before .before .loop-test .taken in (
       rw (c .then .ensures) (sound-then _ _ (l .inv .0)),
-      rw (then-more h (l .place) early, ← l .inv .1, ← command .0) (c .then .ensures),
-      fit-more h (l .place) early (l .inv .2) (rw (← command .0) (command .1)),
+      rw (then-more h (l .stage) early, ← l .inv .1, ← command .0) (c .then .ensures),
+      fit-more h (l .stage) early (l .inv .2) (rw (← command .0) (command .1)),
       omega arith,
     )
 
 returns : tie.Need-returns Inv-loop μ-loop
 returns c =
     let l = c .before .loop in
-    let all : l .place ≡ headerLength = omega arith in
+    let all : l .stage ≡ headerLength = omega arith in
     let e = rw all at (l .inv .1) in
     let fits = rw all at (l .inv .2) in
     (rw (← c .before .before .initial .ensures) e, fits)

@@ -15,11 +15,11 @@ use Rattle.ticket.proofs.writer.put_header.Statement.{statement}
 use Rattle.ticket.proofs.writer.put_header.Tie as tie
 
 abbrev Inv-loop : tie.InvT-loop
-Inv-loop h out₀ at₀ place₀ out at place =
-    Placed out₀ at₀ (encodeAll (commandsBefore h place)) out at × (place ≤ headerLength) × (length out ≡ length out₀)
+Inv-loop h out₀ at₀ stage₀ out at stage =
+    Placed out₀ at₀ (encodeAll (commandsBefore h stage)) out at × (stage ≤ headerLength) × (length out ≡ length out₀)
 
 abbrev μ-loop : tie.MeasureT-loop
-μ-loop h out₀ at₀ place₀ out at place = headerLength - place
+μ-loop h out₀ at₀ stage₀ out at stage = headerLength - stage
 
 loop-holds : tie.Need-loop-holds Inv-loop μ-loop
 loop-holds c = (placed-none _ _, omega arith, refl)
@@ -31,7 +31,7 @@ put-command-requires c κs =
     let s = at-loop .before .before in
     rw (c .before .header-command .ensures .0) (omega (
       arith,
-      header-room (s .args .h) (l .place) (c .before .before .loop-test .taken),
+      header-room (s .args .h) (l .stage) (c .before .before .loop-test .taken),
       l .inv .0 .end,
       l .inv .2,
     ))
@@ -43,7 +43,7 @@ loop-again c =
     let l = at-loop .loop in
     let s = at-loop .before .before in
     let early = command .before .loop-test .taken in
-    let room = header-room (s .args .h) (l .place) early in
+    let room = header-room (s .args .h) (l .stage) early in
     let put = rw (command .header-command .ensures .0) at (c .before .before .put-command .ensures) in
     let p =
     placed-command {m = c .before .before .put-command .result} (l .inv .0) (omega (
@@ -51,13 +51,13 @@ loop-again c =
       room,
       put .1,
       l .inv .0 .end,
-    )) (commandAt (s .args .h) (l .place)) put in
-    (rw (bytes-more (s .args .h) (l .place) early) p, omega arith, omega arith)
+    )) (commandAt (s .args .h) (l .stage)) put in
+    (rw (bytes-more (s .args .h) (l .stage) early) p, omega arith, omega arith)
 
 returns : tie.Need-returns Inv-loop μ-loop
 returns c =
     let l = c .before .loop in
-    let all : l .place ≡ headerLength = omega arith in
+    let all : l .stage ≡ headerLength = omega arith in
     let p = rw all at (l .inv .0) in
     (p .bytes, omega (arith, p .end))
 

@@ -1,4 +1,4 @@
--- `extent_cause` meets its contract: only a window is looked at.
+-- `window_cause` meets its contract: only a window is looked at.
 -- Assumes nothing.
 use Prim.Native.Nat.{ℕ}
 use mathlib.Core.Path.{_≡_, sym, ap, _∙_}
@@ -6,21 +6,21 @@ use mathlib.Core.Bool.{true}
 use borrow.Author.Tests.{ltb-true}
 use Rattle.commands.specs.Rows.{rowOf}
 use Rattle.commands.specs.Command.{commandByteOf, operandsOf, windowOf}
-use Rattle.commands.specs.Cause.{extentHolds, edgesHold, apartIn, separate}
+use Rattle.commands.specs.Cause.{edgesWithin, edgesHold, apartFrom, separate}
 use Rattle.commands.specs.inner.Table.{codeRow}
-use Rattle.commands.specs.inner.Extent.{extentCauseOf}
+use Rattle.commands.specs.inner.WindowCause.{windowCauseOf}
 use Rattle.commands.specs.declared.header.Window.{Window}
 use Rattle.commands.specs.declared.header.Header.{Header}
 use Rattle.commands.specs.declared.command.Command.{Command}
-use Rattle.commands.specs.declared.row.CommandRow.{CommandRow as CodeRow}
-use Rattle.commands.specs.declared.row.Extent.{Extent}
-use Rattle.commands.specs.declared.row.Extent.the-variants as Extent
+use Rattle.commands.specs.declared.row.TableRow.{TableRow as CodeRow}
+use Rattle.commands.specs.declared.row.WindowStart.{WindowStart}
+use Rattle.commands.specs.declared.row.WindowStart.the-variants as WindowStart
 use Rattle.commands.proofs.Coding.{said}
 use Rattle.commands.proofs.Table.{row-window}
 use Rattle.commands.proofs.Tests.{fails, passes}
 use borrow.Author.Needs.{needs}
-use Rattle.commands.proofs.cause.extent_cause.Statement.{statement}
-use Rattle.commands.proofs.cause.extent_cause.Tie as tie
+use Rattle.commands.proofs.cause.window_cause.Statement.{statement}
+use Rattle.commands.proofs.cause.window_cause.Tie as tie
 
 row-of-requires : tie.Need-row-of-requires
 row-of-requires c κs = rw (c .byte-of .ensures) (ltb-true _ _ (said (c .before .args .c) .known-byte))
@@ -33,24 +33,24 @@ module _ (r : tie.After-row-of) where
   is-row : r .row-of .result ≡ codeRow (rowOf (commandByteOf command))
   is-row = rw (r .before .byte-of .ensures) at (r .row-of .ensures)
 
-  is-extent : (x : Extent) → r .row-of .result .extent ≡ x → rowOf (commandByteOf command) .extent ≡ x
-  is-extent x e = sym (ap (λ (w : CodeRow). w .extent) is-row) ∙ e
+  is-start : (x : WindowStart) → r .row-of .result .window ≡ x → rowOf (commandByteOf command) .window ≡ x
+  is-start x e = sym (ap (λ (w : CodeRow). w .window) is-row) ∙ e
 
 window-requires : tie.Need-window-requires
 window-requires c κs =
     let r = c .before .before .before .before in
     let e = is-row r in
     let fits = c .operands-of .ensures .1 in
-    rw (c .before .before .extent .given .1) at
+    rw (c .before .before .start .given .1) at
     (row-window (commandByteOf (command r)) _ e (c .operands-of .result) (rw e fits))
 
 -- the tests of a command's window
-module _ (c : Command) (least : ℕ) (e : rowOf (commandByteOf c) .extent ≡ Extent.Window least) (w : Window) (f : w
+module _ (c : Command) (least : ℕ) (e : rowOf (commandByteOf c) .window ≡ WindowStart.From least) (w : Window) (f : w
     ≡ windowOf (operandsOf c)) where
-  edges-test : extentHolds (Extent.Window least) w ≡ edgesHold c
+  edges-test : edgesWithin least w ≡ edgesHold c
   edges-test = rw (e, f)
 
-  separate-test : (h : Header) → apartIn h (Extent.Window 0) w ≡ separate h c
+  separate-test : (h : Header) → apartFrom h w ≡ separate h c
   separate-test h = rw (e, f)
 
 module _ (c : tie.After-window) where
@@ -58,49 +58,49 @@ module _ (c : tie.After-window) where
   row = c .before .before .before .before .before
 
   abbrev least : ℕ
-  least = c .before .before .before .extent .given .0 .0
+  least = c .before .before .before .start .given .0 .0
 
-  is-stated : rowOf (commandByteOf (command row)) .extent ≡ Extent.Window least
-  is-stated = is-extent row (Extent.Window least) (c .before .before .before .extent .given .1)
+  is-stated : rowOf (commandByteOf (command row)) .window ≡ WindowStart.From least
+  is-stated = is-start row (WindowStart.From least) (c .before .before .before .start .given .1)
 
   is-window : c .window .result ≡ windowOf (operandsOf (command row))
   is-window = rw (c .before .operands-of .ensures .0) at (c .window .ensures)
 
-  edges : extentHolds (Extent.Window least) (c .window .result) ≡ edgesHold (command row)
+  edges : edgesWithin least (c .window .result) ≡ edgesHold (command row)
   edges = edges-test (command row) least is-stated (c .window .result) is-window
 
   abbrev header : Header
   header = row .before .before .args .h
 
-  separates : apartIn header (Extent.Window 0) (c .window .result) ≡ separate header (command row)
+  separates : apartFrom header (c .window .result) ≡ separate header (command row)
   separates = separate-test (command row) least is-stated (c .window .result) is-window header
 
 returns : tie.Need-returns
-unfolding extentCauseOf
-returns c = rw (fails (c .before .edges-hold .ensures ∙ edges (c .before .before)) (c .if1 .taken))
+unfolding windowCauseOf
+returns c = rw (fails (c .before .edges-within .ensures ∙ edges (c .before .before)) (c .if1 .taken))
 
 -- the test of the edges does not stop
 edged : (c : tie.Else1) → edgesHold (command (row (c .before .before))) ≡ true
-edged c = passes (c .before .edges-hold .ensures ∙ edges (c .before .before)) (c .if1 .left)
+edged c = passes (c .before .edges-within .ensures ∙ edges (c .before .before)) (c .if1 .left)
 
 returns-2 : tie.Need-returns-2
-unfolding extentCauseOf
+unfolding windowCauseOf
 returns-2 c =
     let e = c .before .before in
-    rw (edged e, fails (c .before .separate .ensures ∙ separates (e .before .before)) (c .if2 .taken))
+    rw (edged e, fails (c .before .apart-from .ensures ∙ separates (e .before .before)) (c .if2 .taken))
 
 returns-3 : tie.Need-returns-3
-unfolding extentCauseOf
-returns-3 c = rw (is-extent (c .before .before) Extent.None (c .enum-told .given .1))
+unfolding windowCauseOf
+returns-3 c = rw (is-start (c .before .before) WindowStart.NoWindow (c .enum-told .given .1))
 
 returns-4 : tie.Need-returns-4
-unfolding extentCauseOf
+unfolding windowCauseOf
 returns-4 c =
     let e = c .before .before in
-    rw (edged e, passes (c .before .separate .ensures ∙ separates (e .before .before)) (c .if2 .left))
+    rw (edged e, passes (c .before .apart-from .ensures ∙ separates (e .before .before)) (c .if2 .left))
 
-pub extent-cause-spec : {M : Type 1} → statement M
-extent-cause-spec =
+pub window-cause-spec : {M : Type 1} → statement M
+window-cause-spec =
     tie.close
     (tie.spec
     (search needs)
