@@ -33,7 +33,8 @@ FAULTS = [
     ('a wide line', 'README.md', lambda text: text + 'x' * 121 + '\n', '121 characters'),
     ('a wide line of code', 'crates/memory/src/lib.rt', lambda text: text + '// ' + 'x' * 118 + '\n', '121 characters'),
     ('a crate under no heading', 'crates.txt', lambda text: text[text.index('lists:'):], 'under no heading'),
-    ('a crate that crates.txt lacks', 'crates.txt', lambda text: text.replace('arguments:\n', ''), 'arguments is'),
+    ('a crate that crates.txt lacks', 'crates.txt',
+     lambda text: text.replace('arguments: lists\n', ''), 'arguments is'),
     ('a crate that names one below it', 'crates.txt',
      lambda text: text.replace('lists:', 'lists: ticket'), 'lists names'),
     ('a path that is not there', 'docs/MONITOR.md', lambda text: text + '`docs/ABSENT.md`\n', 'docs/ABSENT.md'),
@@ -53,6 +54,7 @@ def seen(root, file, change, said):
             path = copy / file
             path.write_text(change(path.read_text()))
         else:  # the definition goes to the inner ones, and its users with it
+            (copy / file).parent.mkdir(exist_ok=True)
             shutil.move(copy / file.replace('inner/', ''), copy / file)
             for path in [*copy.glob('crates/**/*.antt'), *copy.glob('crates/**/*.rt')]:
                 text = path.read_text()

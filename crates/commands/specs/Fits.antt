@@ -9,8 +9,8 @@ use Rattle.commands.specs.declared.command.Command.{Command}
 
 pub data FitsLayout : List CommandOperand → List ℕ → Type 0 where
   none : FitsLayout [] []
-  more : {o : CommandOperand} {os : List CommandOperand} {v : ℕ} {vs : List ℕ} → v < 256 ^ widthIn o → FitsLayout os vs →
-      FitsLayout (o ∷ os) (v ∷ vs)
+  more : {o : CommandOperand} {os : List CommandOperand} {v : ℕ} {vs : List ℕ} → v < 256 ^ widthIn o →
+      FitsLayout os vs → FitsLayout (o ∷ os) (v ∷ vs)
 
 abbrev pub Fits : Command → Type 0
 Fits c = FitsLayout (layoutOf (commandByteOf c)) (operandsOf c)
