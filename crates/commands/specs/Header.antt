@@ -11,8 +11,8 @@ use Rattle.commands.specs.declared.command.Command.{Command}
 use Rattle.commands.specs.declared.command.Command.the-variants as Command
 use Rattle.commands.specs.declared.header.Header.{Header}
 
-abbrev pub noWindow : Window
-noWindow = record { start = 0; length = 0 }
+abbrev pub blankWindow : Window
+blankWindow = record { start = 0; length = 0 }
 
 -- the first address past a window; more than 65,536 where it runs past $FFFF
 abbrev pub pastOf : Window → ℕ
@@ -24,7 +24,7 @@ holds w a = leb (w .start) a && ltb a (pastOf w)
 
 abbrev pub blankHeader : Header
 blankHeader =
-    record { code = noWindow; «data» = noWindow; stack = noWindow; entry = 0; limit = record { 0 = 0 } }
+    record { code = blankWindow; «data» = blankWindow; stack = blankWindow; entry = 0; limit = record { 0 = 0 } }
 
 -- with one command more: it sets what it states, and leaves the rest
 abbrev pub headerWith : Header → HeaderCommand → Header

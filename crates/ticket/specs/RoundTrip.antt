@@ -1,4 +1,4 @@
--- What the laws between reading and writing say (document 01: a ticket read and written again has the same bytes).
+-- What the laws between reading and writing say (demand 2: a ticket read and written again has the same bytes).
 -- Assumes nothing.
 use Prim.Native.Nat.{ℕ, _≤_}
 use mathlib.Core.Path.{_≡_}

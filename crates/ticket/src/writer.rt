@@ -1,5 +1,5 @@
 // The two passes of writing: the checks, then the bytes. Both go through the ticket's commands in file order. An inner
-// module of `write`, which has tested that there is room for the bytes.
+// module of `write`, which tests between the two that there is room for the bytes.
 ghost use mathlib.Core.Path.{_≡_};
 ghost use Prim.Native.Nat.{_+_, _≤_};
 ghost use lib.ListN.{length};
