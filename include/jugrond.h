@@ -1,12 +1,13 @@
 /*
- * The 68HC11 stepper, the verdict on a routine and its start, for the press monitor. Link with libmonitor.a, which
- * `rt staticlib monitor` writes to target/staticlib/.
+ * The 68HC11 stepper, the verdict on a routine and its start, for the press monitor. tools/install puts this header,
+ * the library and a file for pkg-config where they are wanted; link with `pkg-config --libs jugrond`.
  *
  * Registers are 11 bytes, words high byte first; the offsets are below. The flags are S X H I N Z V C from bit 7 to
  * bit 0. Memory is 65,536 bytes: the byte at address n has index n, and every address wraps.
  *
- * A buffer is lent as a pointer and its length in bytes. Pointers are not null, and what they lend does not overlap.
- * A call keeps nothing that was lent to it, and touches no byte past the lengths.
+ * A buffer is lent as a pointer and its length in bytes. Where the length is 0 the pointer may be null, as that of an
+ * empty std::vector in C++; no other pointer is, nor one to a number. What the pointers lend does not overlap. A call
+ * keeps nothing that was lent to it, and touches no byte past the lengths.
  *
  * What a call does not answer it leaves as it was lent. A refusal writes its place and nothing else; only a run that 22
  * or 23 stops keeps what was done before, and writes its cycles too: 0 where it is stopped at its first instruction.
@@ -28,8 +29,8 @@ extern "C" {
  * 10000 * major + 100 * minor + patch. docs/CHANGELOG.md says what each version changes. Major rises where a caller
  * has to change something, minor where something is added.
  */
-#define JUGROND_VERSION "1.1.1"
-#define JUGROND_VERSION_NUMBER 10101
+#define JUGROND_VERSION "1.2.0"
+#define JUGROND_VERSION_NUMBER 10200
 
 #define JUGROND_REGISTER_BYTES 11
 #define JUGROND_MEMORY_BYTES 65536
@@ -70,15 +71,50 @@ extern "C" {
 #define JUGROND_HOST_STACK_BYTES 561152
 #define JUGROND_HOST_STACK_TICK_BYTES 32768
 
-/* Outcomes. A refusal has its number in the specification; its place is written to *place. */
-#define JUGROND_DONE 0            /* a reset or a step was done */
-#define JUGROND_HOME 0            /* a run reached PC $0000 */
-#define JUGROND_ACCEPTED 0        /* a routine was accepted, or accepted and started, or started from its slot */
-#define JUGROND_BAD_IMAGE 9       /* the image's length is not the code window's; place 0 */
+/*
+ * Outcomes. Those from 1 to 24 are the numbers of refusals, with their place in *place: docs/REFUSALS.md has for each
+ * its place and what to do, and jugrond_text.h a line of text.
+ */
+#define JUGROND_DONE 0     /* a reset or a step was done */
+#define JUGROND_HOME 0     /* a run reached PC $0000 */
+#define JUGROND_ACCEPTED 0 /* a routine was accepted, or accepted and started, or started from its slot */
+#define JUGROND_SPENT 100  /* the next instruction of a run would pass the budget */
+
+/* Found in the ticket's bytes; the place is an offset there. */
+#define JUGROND_UNKNOWN_COMMAND 1 /* no command has this byte */
+#define JUGROND_TICKET_CUT 2      /* the ticket ends before its end command */
+#define JUGROND_OUT_OF_ORDER 3    /* a command out of order or repeated */
+#define JUGROND_OUT_OF_RANGE 4    /* an operand outside its range */
+#define JUGROND_WINDOW_EDGE 5     /* a window past $FFFF, or code or stack from $0000 */
+#define JUGROND_WINDOWS_SHARE 6   /* a window shares an address with an earlier one */
+#define JUGROND_MARK_OUTSIDE 7    /* a mark outside the code window */
+#define JUGROND_AFTER_END 8       /* bytes after the end command */
+
+/* The image. */
+#define JUGROND_BAD_IMAGE 9 /* its length is not the code window's; place 0 */
+
+/* Found at a mark; the place is its address. */
+#define JUGROND_BAD_MARK 10        /* no such instruction, or it leaves the code window */
+#define JUGROND_KEPT_OUT 11        /* an instruction that no routine may use */
+#define JUGROND_WRITES_OUTSIDE 12  /* a write outside the data window */
+#define JUGROND_BAD_PULL 13        /* pulls more than was pushed, or returns with bytes still pushed */
+#define JUGROND_NOT_MARKED 14      /* an address that can come next has no mark */
+#define JUGROND_DEPTHS_DISAGREE 15 /* the depth at a mark that comes next */
+#define JUGROND_COST_TOO_LOW 16
+#define JUGROND_NEED_TOO_LOW 17
+
+/* Found of the whole routine; the place is its entry. */
+#define JUGROND_BAD_ENTRY 18       /* not marked, or its depth is not 0 */
+#define JUGROND_OVER_LIMIT 19      /* its cost is above the limit */
+#define JUGROND_STACK_TOO_SMALL 20 /* its need, and home's two bytes, are above the stack window's length */
+
+/* A step, a run, a start. */
 #define JUGROND_BAD_LENGTH 21     /* registers not 11 bytes, memory not 65,536 or a slot not 24; place 0 */
 #define JUGROND_NO_INSTRUCTION 22 /* no such instruction; place PC */
 #define JUGROND_WAITS 23          /* WAI, STOP or TEST; place PC */
-#define JUGROND_SPENT 100         /* the next instruction of a run would pass the budget */
+
+/* The writer of tickets, which no call of this header is. */
+#define JUGROND_OUTPUT_TOO_SMALL 24 /* the place is the bytes needed */
 
 /*
  * Writes the reset value: all zero, flags $D0.
@@ -109,8 +145,8 @@ uint32_t jugrond_run(uint8_t *registers, size_t registers_length, uint8_t *memor
 /*
  * Judges a routine by its ticket and its image.
  * JUGROND_ACCEPTED: *entry is its entry, *cost its certified cycles, *stack its stack bytes; *place is not written.
- * 1 to 20, the specification's number of the first cause for which it is refused: *place is that cause's place (for 1
- * to 8 an offset in the ticket, for 9 it is 0, from 10 on an address); *entry, *cost and *stack stay.
+ * 1 to 20, the number of the first cause for which it is refused: *place is that cause's place (for 1 to 8 an offset in
+ * the ticket, for 9 it is 0, from 10 on an address); *entry, *cost and *stack stay.
  * An accepted routine that is started as jugrond_start does comes home within *cost cycles, whatever the data.
  */
 uint32_t jugrond_verdict(const uint8_t *ticket, size_t ticket_length, const uint8_t *image, size_t image_length,

@@ -1,11 +1,11 @@
 #!/bin/sh
 # make_vectors.sh [DIR]: makes crates/vectors/data/vectors.txt again from two other 68HC11 simulators, GNU's and MAME's.
 # It installs Debian's packages gdb-source and mame where they are missing (root is needed for that) and works in DIR,
-# target/simulators if not given.
+# build/simulators if not given.
 # Two runs write the same bytes. docs/SIMULATORS.md says what is compared and where the simulators are wrong.
 set -eu
 cd "$(dirname "$0")/.."
-work=${1:-target/simulators}
+work=${1:-build/simulators}
 export PYTHONDONTWRITEBYTECODE=1
 mkdir -p "$work" crates/vectors/data
 

@@ -11,6 +11,7 @@
  * cannot be read.
  */
 #include "jugrond.h"
+#include "jugrond_text.h"
 
 #include <errno.h>
 #include <inttypes.h>
@@ -71,7 +72,7 @@ static bool judge(void)
         jugrond_certify(ticket.bytes, ticket.length, image.bytes, image.length, slot, sizeof slot, &place);
 
     if (outcome != JUGROND_ACCEPTED) {
-        printf("refused: cause %" PRIu32 ", place %" PRIu32 "\n", outcome, place);
+        printf("refused: cause %" PRIu32 " at %" PRIu32 ": %s\n", outcome, place, jugrond_text(outcome));
         return false;
     }
     printf("accepted: entry $%04" PRIX32 ", at most %" PRIu32 " cycles and %" PRIu32 " stack bytes\n",
@@ -146,7 +147,8 @@ int main(int argc, char **argv)
         case JUGROND_NO_INSTRUCTION:
         case JUGROND_WAITS:
         default:
-            printf("tick %d: refused: cause %" PRIu32 ", place %" PRIu32 "; stopped\n", i - 2, e.outcome, e.place);
+            printf("tick %d: stopped: cause %" PRIu32 " at %" PRIu32 ": %s\n", i - 2, e.outcome, e.place,
+                   jugrond_text(e.outcome));
             return EXIT_FAILURE; /* here the press is brought to a safe state */
         }
         /* here the output is driven */

@@ -1,0 +1,164 @@
+/*
+ * A null pointer with length 0, for each buffer of each call: it counts as a buffer of no bytes, and what else was lent
+ * stays where the call refuses. Prints a line for each difference and for each group, and last the groups' count; the
+ * exit status tells.
+ */
+#include "jugrond.h"
+
+#include "expect.h"
+#include "lent.h"
+#include "routines.h"
+
+#include <stdio.h>
+
+static uint8_t ticket[P_TICKET_BYTES + 1], image[P_IMAGE_BYTES + 1], memory[JUGROND_MEMORY_BYTES];
+static const uint8_t registers[JUGROND_REGISTER_BYTES] = {1, 2, 3, 4, 5, 6, 7, 8, 9, 10, 11};
+static const uint8_t filled[JUGROND_SLOT_BYTES] = {9, 8, 7, 6, 5, 4, 3, 2, 1};
+
+static void make(void)
+{
+    make_ticket(&routines[0], ticket);
+    make_image(&routines[0], image);
+    fill_background(memory, sizeof memory);
+}
+
+/* The place of a refusal, which is written. */
+static uint32_t *place_of(struct lent *place)
+{
+    return (uint32_t *)(void *)place->bytes;
+}
+
+static void check_judging(size_t guard)
+{
+    struct lent t, i, s = lend(filled, sizeof filled, guard), place = lend(NULL, 4, guard);
+    struct lent entry = lend(NULL, 2, guard), cost = lend(NULL, 4, guard), stack = lend(NULL, 2, guard);
+    uint16_t *e = (uint16_t *)(void *)entry.bytes, *k = (uint16_t *)(void *)stack.bytes;
+    uint32_t *c = (uint32_t *)(void *)cost.bytes, *p = place_of(&place);
+
+    make();
+    t = lend(ticket, P_TICKET_BYTES, guard);
+    i = lend(image, P_IMAGE_BYTES, guard);
+    expect_number("verdict", "no ticket", jugrond_verdict(NULL, 0, i.bytes, i.length, e, c, k, p), JUGROND_TICKET_CUT);
+    expect_number("verdict", "no image", jugrond_verdict(t.bytes, t.length, NULL, 0, e, c, k, p), JUGROND_BAD_IMAGE);
+    expect_number("verdict", "neither", jugrond_verdict(NULL, 0, NULL, 0, e, c, k, p), JUGROND_TICKET_CUT);
+    expect_number("certify", "no ticket", jugrond_certify(NULL, 0, i.bytes, i.length, s.bytes, s.length, p),
+                  JUGROND_TICKET_CUT);
+    expect_number("certify", "no image", jugrond_certify(t.bytes, t.length, NULL, 0, s.bytes, s.length, p),
+                  JUGROND_BAD_IMAGE);
+    expect_number("certify", "no slot", jugrond_certify(t.bytes, t.length, i.bytes, i.length, NULL, 0, p),
+                  JUGROND_BAD_LENGTH);
+    expect_number("certify", "nothing", jugrond_certify(NULL, 0, NULL, 0, NULL, 0, p), JUGROND_BAD_LENGTH);
+    expect_bytes("judging", "ticket", &t, ticket);
+    expect_bytes("judging", "image", &i, image);
+    expect_bytes("judging", "slot", &s, filled);
+    expect_lent("judging", "entry", &entry, false, 0);
+    expect_lent("judging", "cost", &cost, false, 0);
+    expect_lent("judging", "stack", &stack, false, 0);
+    expect_lent("judging", "place", &place, true, 0);
+    take_back(&t);
+    take_back(&i);
+    take_back(&s);
+    take_back(&entry);
+    take_back(&cost);
+    take_back(&stack);
+    take_back(&place);
+}
+
+static void check_starting(size_t guard)
+{
+    static const uint8_t zeros[JUGROND_SLOT_BYTES];
+    struct lent t, i, m, r = lend(registers, sizeof registers, guard), place = lend(NULL, 4, guard);
+    struct lent s = lend(filled, sizeof filled, guard), z = lend(zeros, sizeof zeros, guard);
+    uint32_t *p = place_of(&place);
+
+    make();
+    t = lend(ticket, P_TICKET_BYTES, guard);
+    i = lend(image, P_IMAGE_BYTES, guard);
+    m = lend(memory, sizeof memory, guard);
+    expect_number("start", "no ticket",
+                  jugrond_start(NULL, 0, i.bytes, i.length, r.bytes, r.length, m.bytes, m.length, p),
+                  JUGROND_TICKET_CUT);
+    expect_number("start", "no image",
+                  jugrond_start(t.bytes, t.length, NULL, 0, r.bytes, r.length, m.bytes, m.length, p),
+                  JUGROND_BAD_IMAGE);
+    expect_number("start", "no registers",
+                  jugrond_start(t.bytes, t.length, i.bytes, i.length, NULL, 0, m.bytes, m.length, p),
+                  JUGROND_BAD_LENGTH);
+    expect_number("start", "no memory",
+                  jugrond_start(t.bytes, t.length, i.bytes, i.length, r.bytes, r.length, NULL, 0, p),
+                  JUGROND_BAD_LENGTH);
+    expect_number("start", "nothing", jugrond_start(NULL, 0, NULL, 0, NULL, 0, NULL, 0, p), JUGROND_BAD_LENGTH);
+    expect_number("start from a slot", "no slot",
+                  jugrond_start_certified(NULL, 0, i.bytes, i.length, r.bytes, r.length, m.bytes, m.length, p),
+                  JUGROND_BAD_LENGTH);
+    expect_number("start from a slot", "no image",
+                  jugrond_start_certified(s.bytes, s.length, NULL, 0, r.bytes, r.length, m.bytes, m.length, p),
+                  JUGROND_BAD_IMAGE);
+    expect_number("start from a slot", "no registers",
+                  jugrond_start_certified(s.bytes, s.length, i.bytes, i.length, NULL, 0, m.bytes, m.length, p),
+                  JUGROND_BAD_LENGTH);
+    expect_number("start from a slot", "no memory",
+                  jugrond_start_certified(s.bytes, s.length, i.bytes, i.length, r.bytes, r.length, NULL, 0, p),
+                  JUGROND_BAD_LENGTH);
+    expect_bytes("starting", "ticket", &t, ticket);
+    expect_bytes("starting", "image", &i, image);
+    expect_bytes("starting", "slot", &s, filled);
+    expect_bytes("starting", "registers", &r, registers);
+    expect_bytes("starting", "memory", &m, memory);
+    expect_lent("starting", "place", &place, true, 0);
+    take_back(&place);
+
+    /* an image of no bytes is as long as the code window of a slot of zeros: nothing of it is stored */
+    place = lend(NULL, 4, guard);
+    expect_number("start from a slot of zeros", "no image",
+                  jugrond_start_certified(z.bytes, z.length, NULL, 0, r.bytes, r.length, m.bytes, m.length,
+                                          place_of(&place)),
+                  JUGROND_ACCEPTED);
+    memory[JUGROND_MEMORY_BYTES - 2] = memory[JUGROND_MEMORY_BYTES - 1] = 0;
+    expect_bytes("starting", "memory after a slot of zeros", &m, memory);
+    expect_lent("starting", "place after a slot of zeros", &place, false, 0);
+    take_back(&t);
+    take_back(&i);
+    take_back(&m);
+    take_back(&r);
+    take_back(&s);
+    take_back(&z);
+    take_back(&place);
+}
+
+static void check_executing(size_t guard)
+{
+    struct lent r = lend(registers, sizeof registers, guard), m, cycles = lend(NULL, 4, guard);
+    struct lent place = lend(NULL, 2, guard);
+    uint32_t *c = (uint32_t *)(void *)cycles.bytes;
+    uint16_t *p = (uint16_t *)(void *)place.bytes;
+
+    make();
+    m = lend(memory, sizeof memory, guard);
+    expect_number("reset", "no registers", jugrond_reset(NULL, 0), JUGROND_BAD_LENGTH);
+    expect_number("step", "no registers", jugrond_step(NULL, 0, m.bytes, m.length, c, p), JUGROND_BAD_LENGTH);
+    expect_number("step", "no memory", jugrond_step(r.bytes, r.length, NULL, 0, c, p), JUGROND_BAD_LENGTH);
+    expect_number("step", "neither", jugrond_step(NULL, 0, NULL, 0, c, p), JUGROND_BAD_LENGTH);
+    expect_number("run", "no registers", jugrond_run(NULL, 0, m.bytes, m.length, 1000, c, p), JUGROND_BAD_LENGTH);
+    expect_number("run", "no memory", jugrond_run(r.bytes, r.length, NULL, 0, 1000, c, p), JUGROND_BAD_LENGTH);
+    expect_number("run", "neither", jugrond_run(NULL, 0, NULL, 0, 1000, c, p), JUGROND_BAD_LENGTH);
+    expect_bytes("executing", "registers", &r, registers);
+    expect_bytes("executing", "memory", &m, memory);
+    expect_lent("executing", "cycles", &cycles, false, 0);
+    expect_lent("executing", "place", &place, true, 0);
+    take_back(&r);
+    take_back(&m);
+    take_back(&cycles);
+    take_back(&place);
+}
+
+int main(void)
+{
+    static const struct group groups[] = {
+        {"judging", check_judging, NULL},
+        {"starting", check_starting, NULL},
+        {"executing", check_executing, NULL},
+    };
+
+    return check_groups(groups, sizeof groups / sizeof groups[0]);
+}
