@@ -16,7 +16,7 @@ MODES = ["inherent", "immediate", "direct", "extended", "indexed X", "indexed Y"
 
 HEAD = """# Cycles: every instruction with its length, its cycles and what the rules make of it
 
-A routine's costs are counted from this page alone. It is made from the rows by which routines are judged:
+A routine's costs are counted from this page alone. It is made from the table by which routines are judged:
 `python3 tools/cycles_page.py` writes it, and a test compares it.
 
 ## The columns

@@ -43,7 +43,7 @@ FAULTS = [
     ('another name', r'\| ABA ', '| ABX ', 'ABA inherent: the row has mnemonic'),
     ('a row that is not there', r'\| RTS .*\n', '', 'RTS inherent: 0 rows'),
     ('a row twice', r'(\| RTS .*\n)', r'\1\1', 'RTS inherent: 2 rows'),
-    ('a row of no instruction', r'(\| RTS .*\n)', r'\1| RTS | inherent | | 41 | 1 | 5 | returns |\n', '1 too many'),
+    ('a row of no instruction', r'(\| RTS .*\n)', r'\1| RTS | inherent | | 41 | 1 | 5 | returns |\n', 'as many rows: 309 of 308'),
     ('a byte too many', r'( 9B dd)   ', r'\1 mm', 'ADDA direct: 3 bytes'),
     ('another word', r'(\| BRN .*)goes on ', r'\1branches', 'BRN relative: the second verdict'),
     ('another operand', r'(\| LDAB +\| indexed X +\| `ff,)X', r'\1Y', 'LDAB indexed X: assembled'),
@@ -89,8 +89,7 @@ def against_rows(found):
             if not wrong and len(line.bytes.split()) != row.length:
                 wrong = f'{len(line.bytes.split())} bytes of {row.length}'
         yield f'{name} {mode}', wrong
-    extra = len(found) - len(rows())
-    yield 'as many rows', f'{extra} too many' if extra else None
+    yield 'as many rows', None if len(found) == len(rows()) else f'{len(found)} of {len(rows())}'
 
 
 def against_peer(found, work):
