@@ -1,12 +1,26 @@
-; Routine P of the specification: saves A, calls a subroutine that stores A to the data window, and restores A.
-; The code window is $8000, 11 bytes; the data window $0040, 1 byte; the stack window $01F0, 5 bytes.
-	.set	level, 0x40
+; Routine P: saves A, calls a subroutine that stores A to the data window, and restores A. docs/TICKET.md reads its
+; ticket aloud, byte by byte.
+	.include "ticket.inc"
+	.set	level, 0x40		; out: what A holds
 
-entry:	psha			; $8000: 3 cycles and 23 more
-	jsr	store		; $8001: 6 cycles, 8 in the subroutine and 9 after it
-	pula			; $8004: 4 cycles and 5 more
-	rts			; $8005: 5 cycles
-	nop			; $8006, $8007: never reached, and not marked
+	code_window
+	data_window level, 1
+	stack_window 0x01f0, 5		; P needs 3, and home 2
+	entry_point entry, 26		; no more than P takes
+
+	mark	cost_after + 3, 0, 3
+entry:	psha
+	mark	cost_after + cost_store + 6, 1, 2	; what follows the call, and the subroutine
+	jsr	store
+	mark	cost_after + 4, 1, 0
+	pula
+	mark	5, 0, 0
+	rts
+	nop				; never reached, and not marked
 	nop
-store:	staa	*level		; $8008: 3 cycles and 5 more
-	rts			; $800A: 5 cycles
+
+	mark	cost_after + 3, 0, 0, at=store
+store:	staa	*level
+	mark	5, 0, 0
+	rts
+	ticket_end

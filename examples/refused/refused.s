@@ -1,20 +1,34 @@
 ; Switches a relay on, waits until its contact reports it, and starts the pump. Refused: cause 16 at $8006, the branch
 ; back.
 ; Why: no number of cycles covers the wait. A branch needs 3 cycles and the cost at its target, and the cost at wait has
-; this branch in it: 3 + 3 + its own cost. With 19 at $8006 the cost at $8004 is too low; with 22 there the one at $8006
-; is again. (Nor would the wait end: nothing changes the switch while the routine runs.)
-; Mend: write `bpl done` at $8006. The routine looks once and returns; the next tick looks again. Then the ticket is
-; accepted as it is: its costs are those of one look.
-; The code window is $8000, 13 bytes; the data window $0040, 3 bytes; the stack window $01F0, 16 bytes. Nothing is
-; pushed or called: every depth and need is 0.
+; this branch in it: 3 + 3 + its own cost. The mark of the branch leaves the way back out; with or=cost_wait + 3 the
+; assembler itself says `symbol definition loop`. (Nor would the wait end: nothing changes the switch while the routine
+; runs.)
+; Mend: write `bpl done`, and or=cost_done + 3 at its mark. The routine looks once and returns; the next tick looks
+; again.
+; Nothing is pushed or called: every depth and need is 0.
+	.include "ticket.inc"
 	.set	relay, 0x40		; out: bit 7 switches the relay on
 	.set	switch, 0x41		; in: bit 7 is set while the relay is on
 	.set	pump, 0x42		; out: pump drive
 
-entry:	ldaa	#0x80		; $8000: 2 cycles and 19 more
-	staa	*relay		; $8002: 3 cycles and 16 more
-wait:	ldaa	*switch		; $8004: 3 cycles and 13 more; sets N from bit 7
-	bpl	wait		; $8006: 3 cycles and 10 more to ldaa, but 16 more at wait: 13 is too low, and so is any other cost
-	ldaa	#120		; $8008: 2 cycles and 8 more
-	staa	*pump		; $800A: 3 cycles and 5 more
-done:	rts			; $800C: 5 cycles
+	code_window
+	data_window relay, 3
+	stack_window 0x01f0, 16
+	entry_point entry, 50
+
+	mark	cost_after + 2, 0, 0
+entry:	ldaa	#0x80
+	mark	cost_after + 3, 0, 0
+	staa	*relay
+	mark	cost_after + 3, 0, 0, at=wait
+wait:	ldaa	*switch			; sets N from bit 7
+	mark	cost_after + 3, 0, 0	; too low, as any other cost would be
+	bpl	wait
+	mark	cost_after + 2, 0, 0
+	ldaa	#120
+	mark	cost_after + 3, 0, 0
+	staa	*pump
+	mark	5, 0, 0, at=done
+done:	rts
+	ticket_end
