@@ -1,9 +1,9 @@
 """Holds the pages for users to what they say.
 
-- docs/WORKSHOPS.md: its indented blocks are run as they stand there, in order, from the repository's root, with an empty
-  home. What follows a block says what it prints: 'prints `LINE`', or 'prints' alone on its line and the whole output in
-  the next block, or 'prints, ..,' and some lines of it. Other fenced blocks quote examples/ramp/ramp.s, where they have
-  a mark or a macro and do not name another place.
+- docs/WORKSHOPS.md: its indented blocks are run as they stand there, in order, from the repository's root, with an
+  empty home. What follows a block says what it prints: 'prints `LINE`', or 'prints' alone on its line and the whole
+  output in the next block, or 'prints, ..,' and some lines of it. Fenced blocks with marks or windows, up to the
+  mistakes, quote examples/ramp/ramp.s.
 - docs/TICKET.md: the bytes of routine P are those of examples/p/p.tkt, each read aloud with its own numbers; the table
   of commands is that of crates/commands/specs/Rows.antt.
 - No page for users names the papers, which its readers do not have.

@@ -1,5 +1,5 @@
-; Marks whose costs lead every way that a file's order allows: forwards and backwards, through branches, nested ones, and
-; calls in them. What is tried is the assembler's sums: tests/examples/run asks whether each is the least.
+; Marks whose costs lead every way that a file's order allows: forwards and backwards, through branches, branches in
+; branches, and calls in them. It tries the assembler's sums: tests/examples/run asks whether each is the least.
 	.include "ticket.inc"
 	code_window
 	data_window 0x0040, 1
