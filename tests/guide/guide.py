@@ -206,6 +206,20 @@ def ranges(page, definitions):
             same('docs/TICKET.md: a range', text, text if text in known else f'one of {sorted(known)}')
 
 
+def sizes(page, definitions):
+    """How long tickets can be, as the page has it: worked out from the table's widths and the longest code window."""
+    table_rows = rows(definitions)
+    size = {byte: 1 + sum(int(operand[0]) for operand in row) for byte, row in table_rows.items()}
+    head, marks = sum(size[byte] for byte in (1, 2, 3, 4)), int(table_rows[1][1][1].split(' to ')[1].replace(',', ''))
+    order = ' '.join(page.split('## The order')[1].split('## What is refused')[0].split())
+    for said in (f"They are {size[1]}, {size[2]}, {size[3]} and {size[4]} bytes: a ticket's first {head}.",
+                 f'The marks, {size[5]} bytes each', f"the mark's address, {size[6]} bytes more",
+                 f'shorter than {head + size[5] + size[0]} bytes', f'at most {marks:,} of them',
+                 f'has at most {head + marks * size[5] + size[0]:,} bytes',
+                 f'it could have {head + marks * (size[5] + size[6]) + size[0]:,},'):
+        same(f'docs/TICKET.md: {said}', 1, order.count(said))
+
+
 def main():
     workshops = (ROOT / 'docs/WORKSHOPS.md').read_text()
     ticket = (ROOT / 'docs/TICKET.md').read_text()
@@ -213,6 +227,7 @@ def main():
     same('docs/TICKET.md: the table of commands', rows(definitions), table(ticket))
     same('docs/TICKET.md: seven commands', list(range(7)), sorted(table(ticket)))
     ranges(ticket, definitions)
+    sizes(ticket, definitions)
     p = ROOT / 'examples/p'
     aloud(ticket, (p / 'p.tkt').read_bytes(), (p / 'p.bin').read_bytes(), rows(definitions))
     quoted(workshops, (ROOT / 'examples/ramp/ramp.s').read_text())
