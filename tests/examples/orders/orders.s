@@ -48,8 +48,12 @@ to_b:	jsr	late
 to_c:	jsr	complete
 	mark	cost_after + 3, 0, 4, or=cost_to_b + 3
 	bcc	to_b
+	mark	cost_after + 3, 0, 4, or=cost_to_f + 3
+	bvs	to_f
 	mark	cost_to_e + 3, 0, 4
 	jmp	to_e
+	mark	cost_to_b + 3, 0, 4, at=to_f
+to_f:	bra	to_b
 	mark	cost_after + 2, 0, 0, at=to_d
 to_d:	nop
 	mark	5, 0, 0
