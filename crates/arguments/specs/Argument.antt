@@ -1,4 +1,4 @@
--- What an argument of the desk stepper says.
+-- What an argument of the desk stepper says, or why it says nothing.
 -- Assumes nothing.
 use Prim.Native.Nat.{ℕ}
 use mathlib.Core.Bool.{Bool, true, false, cond, _&&_}
@@ -11,7 +11,8 @@ use Rattle.arguments.specs.declared.number.Parsed.the-variants.{Number, 
 use Rattle.arguments.specs.declared.argument.Setting.{Setting}
 use Rattle.arguments.specs.declared.argument.Setting.the-variants.{A, B, X, Y, Flags, Budget}
 use Rattle.arguments.specs.declared.argument.Argument.{Argument}
-use Rattle.arguments.specs.declared.argument.Argument.the-variants.{Set, Memory, Summary, Unknown}
+use Rattle.arguments.specs.declared.argument.Argument.the-variants.{Set, Memory, Summary, Empty, BadValue}
+use Rattle.arguments.specs.declared.argument.Argument.the-variants.{NoFile, Unknown}
 use Rattle.arguments.specs.Number.{numberOf}
 
 unfoldable pub startsWith : List ℕ → List ℕ → Bool
@@ -21,13 +22,14 @@ startsWith (c ∷ cs) (d ∷ ds) = eqb d c && startsWith cs ds
 
 abbrev pub settingOf : Setting → Parsed → Argument
 settingOf n (Number v) = Set n v
-settingOf n Malformed = Unknown
+settingOf n Malformed = BadValue n
 
 -- the name of a file is not empty
 unfoldable pub otherOf : List ℕ → Argument
 otherOf s =
-    cond (startsWith (ascii "memory=") s) (cond (ltb 7 (length s)) Memory Unknown)
-    (cond (startsWith (ascii "summary") s) (cond (eqb (length s) 7) Summary Unknown) Unknown)
+    cond (eqb (length s) 0) Empty
+    (cond (startsWith (ascii "memory=") s) (cond (ltb 7 (length s)) Memory NoFile)
+    (cond (startsWith (ascii "summary") s) (cond (eqb (length s) 7) Summary Unknown) Unknown))
 
 unfoldable pub argumentOf : List ℕ → Argument
 argumentOf s =

@@ -21,6 +21,10 @@ pub enum Argument {
     // the name of a file, after `memory=`
     Memory,
     Summary,
+    // those that say nothing, and why
+    Empty,
+    BadValue(Setting),
+    NoFile,
     Unknown,
 }
 
@@ -47,7 +51,7 @@ fn set_to(n: Setting, p: Parsed) -> Argument
 {
     match p {
         Parsed::Number(v) => Argument::Set(n, v),
-        Parsed::Malformed => Argument::Unknown,
+        Parsed::Malformed => Argument::BadValue(n),
     }
 }
 
@@ -55,11 +59,14 @@ fn set_to(n: Setting, p: Parsed) -> Argument
 fn other(s: &[u8]) -> Argument
     ensures { λ r. ⌜ r ≡ otherOf (now (s .entry)) ⌝ }
 {
+    if s.len() == 0 {
+        return Argument::Empty;
+    }
     if starts_with(s, b"memory=") {
         if 7 < s.len() {
             return Argument::Memory;
         }
-        return Argument::Unknown;
+        return Argument::NoFile;
     }
     if starts_with(s, b"summary") {
         if s.len() == 7 {

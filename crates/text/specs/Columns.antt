@@ -38,7 +38,3 @@ unfoldable pub registersText : Registers → List ℕ
 registersText r =
     byteField " A=" (r .a) ++ (byteField " B=" (r .b) ++ (wordField " X=" (r .x) ++
     (wordField " Y=" (r .y) ++ (wordField " SP=" (r .sp) ++ (ascii " " ++ flagsText (r .flags))))))
-
--- the line of an instruction alone
-unfoldable pub placeLine : ℕ → Listing → List ℕ
-placeLine pc l = listingText pc l ++ ascii "\n"

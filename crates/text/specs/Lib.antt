@@ -7,5 +7,6 @@ pub mod Verdict
 pub mod Line
 pub mod Columns
 pub mod Step
+pub mod Place
 pub mod Last
 pub mod Summary

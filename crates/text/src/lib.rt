@@ -10,6 +10,6 @@ pub mod verdict; // its line
 pub mod line; // a line that grows, and its way into a buffer
 pub mod columns; // an instruction and the registers in fixed columns
 pub mod step; // the line of an instruction that was executed
-pub mod place; // the line of an instruction alone
+pub mod place; // the line of an instruction that is not executed
 pub mod last; // the line that ends a trace
 pub mod summary; // the line of an address
