@@ -1,8 +1,9 @@
 // The desk stepper: reads press.bin and press.tkt from the folder it is run in and, where the routine is accepted, runs
-// it from its start and prints one line for each instruction; where it is refused, the refusal and the instruction at
-// the place. docs/WORKSHOPS.md explains the lines and the arguments.
+// it from its start and prints one line for each instruction; where it is refused, the refusal, what it says, what stands
+// at the place and what to do. docs/WORKSHOPS.md explains the lines and the arguments.
 use accepted::accepted;
 use answers::Verdict;
+use bad_argument::explain;
 use files::load;
 use files::unfit;
 use io::write_all;
@@ -11,11 +12,20 @@ use options::Options;
 use refused::refused;
 use verdict::verdict;
 
-mod accepted; // a routine that is accepted
-mod marks; // the marks by address
-mod options; // what the arguments ask for
-mod refused; // a routine that is refused
+// the arguments
+mod options; // what they ask for
+mod bad_argument; // one that says nothing
+// a routine that is accepted
+mod accepted; // its trace
 mod steps; // the instructions of a run
+mod marks; // the marks by address
+// a routine that is refused
+mod refused; // its lines
+mod words; // what a cause says, and what to do
+mod command; // the command at an offset of the ticket
+mod place; // the instruction at an address
+mod figures; // windows, lengths and the limit
+mod print; // text and numbers on standard output
 
 fn usage() {
     write_all(
@@ -47,7 +57,8 @@ fn judge(o: Options, ticket: &[u8], image: &[u8], mem: [u8; 65536]) {
 
 fn main() {
     let o = options::read();
-    if !o.good {
+    if o.bad != 0 {
+        explain(o.bad);
         usage();
         return;
     }

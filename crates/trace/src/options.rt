@@ -4,15 +4,15 @@ use arguments::argument::Setting;
 use arguments::argument::argument_in;
 use registers::Data;
 
-// `good` unless an argument is unknown or malformed. `memory` is the number of the argument that names a file, 0 where
-// none does.
+// `memory` is the number of the argument that names a file, `bad` that of the first one that says nothing; 0 where there
+// is none.
 pub struct Options {
     pub start: Data,
     pub budget: u32,
     pub memory: usize,
     pub limited: bool,
     pub summary: bool,
-    pub good: bool,
+    pub bad: usize,
 }
 
 // All registers zero and the flags as after a reset; no budget but the certified cycles; a memory of zeros.
@@ -29,7 +29,7 @@ fn none() -> Options {
         memory: 0,
         limited: false,
         summary: false,
-        good: true,
+        bad: 0,
     }
 }
 
@@ -58,6 +58,14 @@ fn with_setting(o: Options, n: Setting, v: u32) -> Options {
     r
 }
 
+fn with_bad(o: Options, i: usize) -> Options {
+    let mut r = o;
+    if o.bad == 0 {
+        r.bad = i;
+    }
+    r
+}
+
 // Argument number i. A later one of the same name counts.
 fn with(o: Options, a: Argument, i: usize) -> Options {
     let mut r = o;
@@ -65,12 +73,15 @@ fn with(o: Options, a: Argument, i: usize) -> Options {
         Argument::Set(n, v) => return with_setting(o, n, v),
         Argument::Memory => r.memory = i,
         Argument::Summary => r.summary = true,
-        Argument::Unknown => r.good = false,
+        Argument::Empty => return with_bad(o, i),
+        Argument::BadValue(_) => return with_bad(o, i),
+        Argument::NoFile => return with_bad(o, i),
+        Argument::Unknown => return with_bad(o, i),
     }
     r
 }
 
-// An argument that is empty, or longer than a path can be, is unknown.
+// One that is longer than a path can be is read as an empty one.
 fn read_one(o: Options, i: usize) -> Options {
     let mut buf = io::buffer();
     let n = os::arg(i, &mut buf);

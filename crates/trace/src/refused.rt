@@ -1,65 +1,75 @@
-// A routine that is refused: the line of the checking program, and the instruction at the place.
-ghost use Prim.Native.Nat.{_<_};
+// A routine that is refused: the line of the checking program and, below it, the cause in words, what stands at the
+// place, and what to do.
+use crate::command::command_line;
+use crate::figures::figures_line;
+use crate::figures::lengths_line;
+use crate::place::place_line;
+use crate::print::decimal;
+use crate::print::text;
+use crate::print::word;
+use crate::words::to_do;
+use crate::words::words;
 use answers::Refusal;
 use answers::Verdict;
-use commands::header::Window;
 use io::write_all;
 use libc::STDOUT_FILENO;
-use text::listing::list;
-use text::place::put_place;
 use text::verdict::put_verdict;
 use ticket::answer::ReadAnswer;
+use ticket::fields::Ticket;
 use ticket::read;
 
-// The byte at an index of the image; past its end there are zeros, as the checks have it.
-fn byte(image: &[u8], i: usize) -> u8 {
-    if i < image.len() { image[i] } else { 0 }
-}
-
-fn instruction(image: &[u8], i: usize, a: u16)
-    requires { ⌜ i < 65536 ⌝ }
-{
-    let mut line = [0u8; 256];
-    let l = list(
-        a,
-        byte(image, i),
-        byte(image, i + 1),
-        byte(image, i + 2),
-        byte(image, i + 3),
-        byte(image, i + 4),
-    );
-    let n = put_place(a, l, &mut line);
+fn verdict_line(x: Refusal) {
+    let mut line = [0u8; 64];
+    let n = put_verdict(Verdict::Refuse(x), &mut line);
     write_all(STDOUT_FILENO, &line[0..n]);
 }
 
-// Of the causes 10 to 20 the place is an address; it may lie outside the image.
-fn place(x: Refusal, code: Window, image: &[u8]) {
-    if x.number < 10 {
+// The place of 1 to 8 is an offset, from 10 on an address; 9 has none.
+fn cause_line(x: Refusal) {
+    let place = (x.place % 65536) as u16;
+    decimal(x.number as u32);
+    if x.number < 9 {
+        text(b" at offset ");
+        word(place);
+    }
+    if 9 < x.number {
+        text(b" at ");
+        word(place);
+    }
+    text(b": ");
+    words(x.number);
+    text(b"\n");
+}
+
+fn judged_lines(x: Refusal, t: Ticket, image: &[u8]) {
+    let h = t.header;
+    let code = h.code;
+    if x.number == 9 {
+        lengths_line(code, image);
         return;
     }
-    let a = (x.place % 65536) as u16;
-    if a < code.start {
-        return;
-    }
-    let i = (a - code.start) as usize;
-    if i < image.len() {
-        instruction(image, i, a);
+    place_line(t, (x.place % 65536) as u16, image);
+    figures_line(x.number, h);
+}
+
+// What stands at the place: a command of a ticket that is refused at reading, else an instruction or figures.
+fn place_lines(x: Refusal, ticket: &[u8], image: &[u8]) {
+    let reading = read(ticket);
+    let answer = reading.answer;
+    match answer {
+        ReadAnswer::Refused(r) => command_line(ticket, r.place),
+        ReadAnswer::Read => {
+            let t = reading.ticket;
+            judged_lines(x, t, image);
+        }
     }
 }
 
 pub fn refused(x: Refusal, ticket: &[u8], image: &[u8]) {
-    let mut line = [0u8; 64];
-    let n = put_verdict(Verdict::Refuse(x), &mut line);
-    write_all(STDOUT_FILENO, &line[0..n]);
-    let reading = read(ticket);
-    let answer = reading.answer;
-    match answer {
-        ReadAnswer::Refused(_) => {}
-        ReadAnswer::Read => {
-            let t = reading.ticket;
-            let h = t.header;
-            let code = h.code;
-            place(x, code, image);
-        }
-    }
+    verdict_line(x);
+    cause_line(x);
+    place_lines(x, ticket, image);
+    text(b"to do: ");
+    to_do(x.number);
+    text(b"\n");
 }
