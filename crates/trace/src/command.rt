@@ -1,13 +1,11 @@
 // The command at an offset of the ticket, and the mark that it belongs to.
+use crate::print::byte;
 use crate::print::text;
 use crate::print::word;
 use commands::command::Command;
 use commands::encode::width_of;
 use commands::parse::ParsedCommand;
 use commands::parse::parse;
-use io::write_all;
-use libc::STDOUT_FILENO;
-use text::number::hex2;
 
 // A mark's address, or none.
 enum MarkAddress {
@@ -29,9 +27,8 @@ fn name(b: u8) {
 }
 
 fn command(b: u8) {
-    let h = hex2(b);
-    text(b"command $");
-    write_all(STDOUT_FILENO, &[h[0], h[1]]);
+    text(b"command ");
+    byte(b);
     text(b" (");
     name(b);
     text(b")");

@@ -23,19 +23,19 @@ pub fn window_line(name: &[u8], w: Window) {
 
 pub fn lengths_line(code: Window, image: &[u8]) {
     text(b"image ");
-    counted((image.len() % 4294967296) as u32, b"byte");
+    counted(image.len() as u64, b"byte");
     text(b", code window ");
-    counted(code.length as u32, b"byte");
+    counted(code.length as u64, b"byte");
     text(b"\n");
 }
 
 fn limit_line(cycles: u32) {
     text(b"limit ");
-    counted(cycles, b"cycle");
+    counted(cycles as u64, b"cycle");
     text(b"\n");
 }
 
-// What a mark's claims are not enough to judge by: of 12 the data window, of 19 the limit, of 20 the stack window.
+// What a mark's claims are held against: of 12 it is the data window, of 19 the limit, of 20 the stack window.
 pub fn figures_line(number: u8, h: Header) {
     let data = h.data;
     let stack = h.stack;

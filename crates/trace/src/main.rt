@@ -1,6 +1,6 @@
 // The desk stepper: reads press.bin and press.tkt from the folder it is run in and, where the routine is accepted, runs
-// it from its start and prints one line for each instruction; where it is refused, the refusal, what it says, what stands
-// at the place and what to do. docs/WORKSHOPS.md explains the lines and the arguments.
+// it from its start and prints one line for each instruction; where it is refused, the refusal, what it means, what
+// stands at the place and what to do. docs/WORKSHOPS.md explains the lines and the arguments.
 use accepted::accepted;
 use answers::Verdict;
 use bad_argument::explain;

@@ -4,8 +4,8 @@ use arguments::argument::Setting;
 use arguments::argument::argument_in;
 use registers::Data;
 
-// `memory` is the number of the argument that names a file, `bad` that of the first one that says nothing; 0 where there
-// is none.
+// `memory` is the number of the argument that names a file, `bad` that of the first one that says nothing; 0 where
+// there is none.
 pub struct Options {
     pub start: Data,
     pub budget: u32,

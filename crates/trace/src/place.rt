@@ -5,6 +5,7 @@ use crate::marks::marking_at;
 use commands::header::holds;
 use io::write_all;
 use libc::STDOUT_FILENO;
+use registers::word::wrapping_sub;
 use text::listing::list;
 use text::place::Marking;
 use text::place::put_place;
@@ -35,12 +36,13 @@ fn instruction(image: &[u8], i: usize, a: u16, m: Marking)
 pub fn place_line(t: Ticket, a: u16, image: &[u8]) {
     let h = t.header;
     let code = h.code;
-    if a < code.start {
-        return window_line(b"outside the code window", code);
-    }
-    let i = (a - code.start) as usize;
-    if i < image.len() {
-        instruction(image, i, a, marking_at(t, a));
+    if holds(code, a) {
+        instruction(
+            image,
+            wrapping_sub(a, code.start) as usize,
+            a,
+            marking_at(t, a),
+        );
     } else {
         window_line(b"outside the code window", code);
     }

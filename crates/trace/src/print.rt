@@ -2,17 +2,24 @@
 use io::print_decimal;
 use io::write_all;
 use libc::STDOUT_FILENO;
+use text::number::hex2;
 use text::number::put_hex;
 
 pub fn text(s: &[u8]) {
     write_all(STDOUT_FILENO, s);
 }
 
-pub fn decimal(n: u32) {
-    print_decimal(STDOUT_FILENO, n as u64);
+pub fn decimal(n: u64) {
+    print_decimal(STDOUT_FILENO, n);
 }
 
-// A word in hexadecimal, after a dollar sign.
+// A byte in hexadecimal, after a dollar sign.
+pub fn byte(n: u8) {
+    let h = hex2(n);
+    write_all(STDOUT_FILENO, &[b'$', h[0], h[1]]);
+}
+
+// A word likewise.
 pub fn word(n: u16) {
     let mut s = [b'$'; 5];
     put_hex(&mut s, 1, n);
@@ -20,7 +27,7 @@ pub fn word(n: u16) {
 }
 
 // A number of things, with their name in the singular.
-pub fn counted(n: u32, name: &[u8]) {
+pub fn counted(n: u64, name: &[u8]) {
     decimal(n);
     text(b" ");
     text(name);

@@ -27,7 +27,7 @@ fn verdict_line(x: Refusal) {
 // The place of 1 to 8 is an offset, from 10 on an address; 9 has none.
 fn cause_line(x: Refusal) {
     let place = (x.place % 65536) as u16;
-    decimal(x.number as u32);
+    decimal(x.number as u64);
     if x.number < 9 {
         text(b" at offset ");
         word(place);
@@ -57,7 +57,7 @@ fn place_lines(x: Refusal, ticket: &[u8], image: &[u8]) {
     let reading = read(ticket);
     let answer = reading.answer;
     match answer {
-        ReadAnswer::Refused(r) => command_line(ticket, r.place),
+        ReadAnswer::Refused(_) => command_line(ticket, x.place),
         ReadAnswer::Read => {
             let t = reading.ticket;
             judged_lines(x, t, image);
