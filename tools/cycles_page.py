@@ -45,8 +45,8 @@ What has no row is no instruction (cause 10). Forms that one may look for in vai
 - `BCLR`, `BRCLR`, `BRSET` and `BSET` have no extended form: their byte is direct or indexed.
 
 Count from what was assembled, not from the source: an address without `*` is extended, and a branch that does not
-reach silently becomes a jump, or the opposite branch and a jump (`BSR` becomes `JSR`; `BRSET` and `BRCLR` that do not
-reach are an error). `m68hc11-objdump -d` lists what was made.
+reach silently becomes a jump, or the opposite branch and a jump (`BSR` becomes `JSR`), unless the assembler is told
+`-S`; of `BRSET` and `BRCLR` it is always an error. `m68hc11-objdump -d` lists what was made.
 
 ## What the rules make of it
 

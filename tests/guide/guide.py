@@ -1,9 +1,9 @@
 """Holds the pages for users to what they say.
 
-- docs/WORKSHOPS.md: its indented blocks are run as they stand there, in order, from the repository's root, with an
-  empty home. What follows a block says what it prints: 'prints `LINE`', or 'prints' alone on its line and the whole
-  output in the next block, or 'prints, ..,' and some lines of it. Fenced blocks with marks or windows, up to the
-  mistakes, quote examples/ramp/ramp.s.
+- docs/WORKSHOPS.md, docs/MONITOR.md: their indented blocks are run as they stand there, in order, from the
+  repository's root, with an empty home. What follows a block says what it prints: 'prints `LINE`', or 'prints' alone
+  on its line and the whole output in the next block, or 'prints, ..,' and some lines of it. In WORKSHOPS fenced blocks
+  with marks or windows, up to the mistakes, quote examples/ramp/ramp.s.
 - docs/TICKET.md: the bytes of routine P are those of examples/p/p.tkt, each read aloud with its own numbers; the table
   of commands is that of crates/commands/specs/Rows.antt.
 - No page for users names the papers, which its readers do not have.
@@ -75,18 +75,18 @@ def run(command, home):
 
 
 def status_of(output):
-    """The status that a command ends with, by the first word of what it prints."""
-    return {'REFUSE': 1, 'FILE': 2}.get(output.split(' ')[0], 0)
+    """The status that a command ends with, by what it prints; the example monitor has 1 where a tick was spent."""
+    return {'REFUSE': 1, 'FILE': 2}.get(output.split(' ')[0], 1 if ': spent after ' in output else 0)
 
 
-def commands(page, home):
-    """Runs the commands of a page, and compares what the page says that they print."""
-    parts = list(blocks(page))
+def commands(name, least, home):
+    """Runs the commands of a page, at least so many, and compares what the page says that they print."""
+    parts = list(blocks((ROOT / name).read_text()))
     output, tried, at = None, 0, 0
     while at < len(parts):
         kind, lines, number = parts[at]
         at += 1
-        where = f'docs/WORKSHOPS.md, line {number}'
+        where = f'{name}, line {number}'
         if kind == 'text' and output is not None:
             how, line = follows(lines)
             if how == 'line':
@@ -102,7 +102,7 @@ def commands(page, home):
             if status != status_of(output):
                 print(errors)
             tried += 1
-    same('docs/WORKSHOPS.md: commands to run', True, tried > 8)
+    same(f'{name}: commands to run', True, tried >= least)
 
 
 def quoted(page, source):
@@ -236,9 +236,11 @@ def main():
         same(f'{name}: names no paper', [], PAPERS.findall(page.read_text()) if page.exists() else ['it is missing'])
     if shutil.which('m68hc11-as'):
         with tempfile.TemporaryDirectory() as home:
-            commands(workshops, home)
+            commands('docs/WORKSHOPS.md', 9, home)
     else:
         print('NOT TRIED: the commands of docs/WORKSHOPS.md, for want of binutils-m68hc1x')
+    with tempfile.TemporaryDirectory() as home:
+        commands('docs/MONITOR.md', 2, home)
     print(f'{passed} passed, {failed} failed')
     sys.exit(failed > 0)
 
