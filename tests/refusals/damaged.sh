@@ -1,5 +1,7 @@
 # P, damaged so that it is refused: once for each cause of a verdict. To be sourced; $root is the repository.
 #
+# shellcheck shell=sh disable=SC2154
+#
 # P's ticket has its windows at 0, 5 and 10, its entry at 15, its marks from 22 on, 11 bytes each, and its end at 88.
 
 # P's two files in the current folder.
