@@ -1,9 +1,9 @@
 // A routine that is accepted: its instructions, and the line that ends the trace.
 use crate::options::Options;
-use crate::refused::refused;
 use crate::steps::Reached;
 use crate::steps::steps;
 use crate::steps::summary;
+use explain::refused;
 use io::write_all;
 use libc::STDOUT_FILENO;
 use registers::Cycles;

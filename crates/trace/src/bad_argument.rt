@@ -39,7 +39,7 @@ fn beginning(s: &[u8]) {
 }
 
 // Argument number i. Of one that is longer than the buffer the length is 0, and the buffer holds its first bytes.
-pub fn explain(i: usize) {
+pub fn say_why(i: usize) {
     let mut buf = io::buffer();
     let n = os::arg(i, &mut buf);
     let long = (n == 0) & (buf[0] != 0);

@@ -3,13 +3,13 @@
 // stands at the place and what to do. docs/WORKSHOPS.md explains the lines and the arguments.
 use accepted::accepted;
 use answers::Verdict;
-use bad_argument::explain;
+use bad_argument::say_why;
+use explain::refused;
 use files::load;
 use files::unfit;
 use io::write_all;
 use libc::STDERR_FILENO;
 use options::Options;
-use refused::refused;
 use verdict::verdict;
 
 // the arguments
@@ -18,14 +18,6 @@ mod bad_argument; // one that says nothing
 // a routine that is accepted
 mod accepted; // its trace
 mod steps; // the instructions of a run
-mod marks; // the marks by address
-// a routine that is refused
-mod refused; // its lines
-mod words; // what a cause says, and what to do
-mod command; // the command at an offset of the ticket
-mod place; // the instruction at an address
-mod figures; // windows, lengths and the limit
-mod print; // text and numbers on standard output
 
 fn usage() {
     write_all(
@@ -58,7 +50,7 @@ fn judge(o: Options, ticket: &[u8], image: &[u8], mem: [u8; 65536]) {
 fn main() {
     let o = options::read();
     if o.bad != 0 {
-        explain(o.bad);
+        say_why(o.bad);
         usage();
         return;
     }

@@ -1,8 +1,8 @@
 // The instructions of a run, one by one: a line for each, or what was seen at each address.
-use crate::marks::claim_at;
-use crate::marks::index_of;
 use io::write_all;
 use libc::STDOUT_FILENO;
+use marks::claim_at;
+use marks::index_of;
 use measure::look::measure;
 use memory::byte_at;
 use registers::Cycles;

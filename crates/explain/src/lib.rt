@@ -1,5 +1,5 @@
-// A routine that is refused: the line of the checking program and, below it, the cause in words, what stands at the
-// place, and what to do.
+// An inner crate: what a person is told of a routine that is refused. Below the line of the checking program: the cause
+// in words, what stands at the place, and what to do.
 use crate::command::command_line;
 use crate::figures::figures_line;
 use crate::figures::lengths_line;
@@ -17,6 +17,12 @@ use text::verdict::put_verdict;
 use ticket::answer::ReadAnswer;
 use ticket::fields::Ticket;
 use ticket::read;
+
+mod words; // what a cause says, and what to do
+mod command; // the command at an offset of the ticket
+mod place; // the instruction at an address
+mod figures; // windows, lengths and the limit
+mod print; // text and numbers on standard output
 
 fn verdict_line(x: Refusal) {
     let mut line = [0u8; 64];

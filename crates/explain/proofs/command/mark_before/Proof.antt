@@ -4,8 +4,8 @@ use borrow.Author.Needs.{needs}
 use native.Mathlib.Omega.{arith}
 use Prim.Native.Nat.{_-_}
 use Rattle.commands.specs.Bytes.{widthOf}
-use Rattle.trace.proofs.command.mark_before.Statement.{statement}
-use Rattle.trace.proofs.command.mark_before.Tie as tie
+use Rattle.explain.proofs.command.mark_before.Statement.{statement}
+use Rattle.explain.proofs.command.mark_before.Tie as tie
 
 abbrev Inv-loop : tie.InvT-loop
 Inv-loop ticket place latest₀ at₀ latest at = Unit

@@ -6,8 +6,8 @@ use native.Mathlib.Omega.{arith}
 use lib.ListN.{length, length-map, List·getD-eq-default}
 use Rattle.ticket.specs.declared.fields.Mark.{Mark}
 use Rattle.ticket.specs.Fields.{blankMark}
-use Rattle.trace.proofs.marks.claim_at.Statement.{statement}
-use Rattle.trace.proofs.marks.claim_at.Tie as tie
+use Rattle.marks.proofs.claim_at.Statement.{statement}
+use Rattle.marks.proofs.claim_at.Tie as tie
 
 full : (s : tie.Start) → length (s .args .t .marks) ≡ 4096
 full s = sym (length-map (s .args .t .marks) _) ∙ s .good .0 .1 .1 .1 .1 .0 .1 .0 .1

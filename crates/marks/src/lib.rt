@@ -1,10 +1,9 @@
-// The marks of a ticket, by address.
+// An inner crate: the marks of a ticket by address, for the desk stepper.
 ghost use mathlib.Core.Path.{_≡_};
 ghost use Prim.Native.Nat.{_≤_, _<_};
 ghost use lib.ListN.{getD};
 ghost use Rattle.ticket.specs.Fields.{blankMark};
 use commands::command::Claim;
-use text::place::Marking;
 use ticket::fields::Ticket;
 use ticket::fields::blank;
 
@@ -39,13 +38,4 @@ pub fn claim_at(t: Ticket, i: usize) -> Claim
     let marks = t.marks;
     let m = marks[i];
     m.claim
-}
-
-pub fn marking_at(t: Ticket, a: u16) -> Marking {
-    let i = index_of(t, a);
-    if i < 4096 {
-        Marking::Marked(claim_at(t, i))
-    } else {
-        Marking::Unmarked
-    }
 }

@@ -4,8 +4,8 @@ use borrow.Author.Needs.{needs}
 use Prim.Native.Nat.{_-_, _≤_}
 use mathlib.Core.Path.{_≡_, sym, _∙_}
 use lib.ListN.{length, length-map}
-use Rattle.trace.proofs.marks.index_of.Statement.{statement}
-use Rattle.trace.proofs.marks.index_of.Tie as tie
+use Rattle.marks.proofs.index_of.Statement.{statement}
+use Rattle.marks.proofs.index_of.Tie as tie
 
 abbrev Inv-loop : tie.InvT-loop
 Inv-loop a marks count i₀ i = (i ≤ 4096) × (length marks ≡ 4096)

@@ -1,10 +1,11 @@
 // The instruction at an address of the image, with its mark's claims.
 ghost use Prim.Native.Nat.{_<_};
 use crate::figures::window_line;
-use crate::marks::marking_at;
 use commands::header::holds;
 use io::write_all;
 use libc::STDOUT_FILENO;
+use marks::claim_at;
+use marks::index_of;
 use registers::word::wrapping_sub;
 use text::listing::list;
 use text::place::Marking;
@@ -30,6 +31,15 @@ fn instruction(image: &[u8], i: usize, a: u16, m: Marking)
     );
     let n = put_place(a, l, m, &mut line);
     write_all(STDOUT_FILENO, &line[0..n]);
+}
+
+fn marking_at(t: Ticket, a: u16) -> Marking {
+    let i = index_of(t, a);
+    if i < 4096 {
+        Marking::Marked(claim_at(t, i))
+    } else {
+        Marking::Unmarked
+    }
 }
 
 // An entry may lie outside the code window; a mark does not.
