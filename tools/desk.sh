@@ -3,6 +3,11 @@
 # where they are installed (tools/install), nothing of the toolchain is needed.
 # shellcheck shell=sh
 
+say() { # MESSAGE
+    printf '%s: %s\n' "$self" "$1" >&2
+}
+
+unset CDPATH # where `cd` goes must be what is written
 # shellcheck source=tools/build.sh
 if [ -r "$folder/tools/build.sh" ]; then
     root=$folder
@@ -14,10 +19,6 @@ else
     current_trace() { :; }
     version() { cat "$programs/version"; }
 fi
-
-say() { # MESSAGE
-    printf '%s: %s\n' "$self" "$1" >&2
-}
 
 # What is wrong with the arguments; the wrapper sets `usage`.
 misused() { # MESSAGE
@@ -35,26 +36,32 @@ common_option() { # OPTION
     esac
 }
 
-file_argument() { # NAME VALUE: an argument that names a file
-    [ -n "$2" ] || misused "$1 is empty; it is the name of a file"
-}
+line_feed='
+'
 
-absolute() { # FILE
-    case $1 in
-    /*) printf '%s' "$1" ;;
-    *) printf '%s/%s' "$PWD" "$1" ;;
+# An argument that names a file. A name with a line feed would make two lines of an answer.
+file_argument() { # NAME VALUE
+    case $2 in
+    '') misused "$1 is empty; it is the name of a file" ;;
+    *"$line_feed"*) misused "$1 holds a line feed; no file is taken by such a name" ;;
     esac
 }
 
-# A scratch folder, and in it one that lends the user's files to a program under the names that it knows.
-lend() { # IMAGE TICKET
+# A copy of a user's file under the name that a program knows, or none where it cannot be read. It is read once, so that
+# two programs judge the same bytes, and a pipe will do; a byte more than a program takes tells it that there is more.
+lend() { # FILE NAME
+    { head -c 65537 <"$1" >"$work/here/$2"; } 2>/dev/null || rm -f "$work/here/$2"
+}
+
+# The two files, in a scratch folder.
+lend_routine() { # IMAGE TICKET
     image=$1 ticket=$2 memory=
     work=$(mktemp -d) || exit 3
     trap 'rm -rf "$work"' EXIT
     trap 'exit 3' HUP INT TERM
     mkdir "$work/here" || exit 3
-    ln -s -- "$(absolute "$1")" "$work/here/press.bin"
-    ln -s -- "$(absolute "$2")" "$work/here/press.tkt"
+    lend "$image" press.bin
+    lend "$ticket" press.tkt
 }
 
 # The user's name for a file that a program names.
