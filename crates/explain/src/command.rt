@@ -1,7 +1,8 @@
-// The command at an offset of the ticket, and the mark that it belongs to.
+// What stands at an offset of the ticket: a command, with the mark that it belongs to, or a byte after the end.
 use crate::print::byte;
 use crate::print::text;
 use crate::print::word;
+use answers::Refusal;
 use commands::command::Command;
 use commands::encode::width_of;
 use commands::parse::ParsedCommand;
@@ -99,7 +100,7 @@ fn mark(ticket: &[u8], place: u32) {
     }
 }
 
-pub fn command_line(ticket: &[u8], place: u32) {
+fn command_line(ticket: &[u8], place: u32) {
     let at = place as usize;
     if at < ticket.len() {
         let b = ticket[at];
@@ -114,4 +115,22 @@ pub fn command_line(ticket: &[u8], place: u32) {
         after(mark_before(ticket, place));
     }
     text(b"\n");
+}
+
+// A byte after the end is no command, whatever it is.
+fn byte_line(ticket: &[u8], place: u32) {
+    let at = place as usize;
+    if at < ticket.len() {
+        text(b"byte ");
+        byte(ticket[at]);
+        text(b", after the end\n");
+    }
+}
+
+pub fn ticket_line(x: Refusal, ticket: &[u8]) {
+    if x.number == 8 {
+        byte_line(ticket, x.place);
+    } else {
+        command_line(ticket, x.place);
+    }
 }

@@ -1,6 +1,6 @@
 // An inner crate: what a person is told of a routine that is refused. Below the line of the checking program: the cause
 // in words, what stands at the place, and what to do.
-use crate::command::command_line;
+use crate::command::ticket_line;
 use crate::figures::figures_line;
 use crate::figures::lengths_line;
 use crate::place::place_line;
@@ -19,7 +19,7 @@ use ticket::fields::Ticket;
 use ticket::read;
 
 mod words; // what a cause says, and what to do
-mod command; // the command at an offset of the ticket
+mod command; // what stands at an offset of the ticket
 mod place; // the instruction at an address
 mod figures; // windows, lengths and the limit
 mod print; // text and numbers on standard output
@@ -32,6 +32,8 @@ fn verdict_line(x: Refusal) {
 
 // The place of 1 to 8 is an offset, from 10 on an address; 9 has none.
 fn cause_line(x: Refusal) {
+    // An offset fits 16 bits. A ticket's file has at most 65,536 bytes, so only the end of one that long would not: but
+    // where the place is the end, the file stops between two commands after 22 + 11 n bytes, which is never 65,536.
     let place = (x.place % 65536) as u16;
     decimal(x.number as u64);
     if x.number < 9 {
@@ -58,12 +60,12 @@ fn judged_lines(x: Refusal, t: Ticket, image: &[u8]) {
     figures_line(x.number, h);
 }
 
-// What stands at the place: a command of a ticket that is refused at reading, else an instruction or figures.
+// What stands at the place: in a ticket that is refused at reading a command or a byte, else an instruction or figures.
 fn place_lines(x: Refusal, ticket: &[u8], image: &[u8]) {
     let reading = read(ticket);
     let answer = reading.answer;
     match answer {
-        ReadAnswer::Refused(_) => command_line(ticket, x.place),
+        ReadAnswer::Refused(_) => ticket_line(x, ticket),
         ReadAnswer::Read => {
             let t = reading.ticket;
             judged_lines(x, t, image);
