@@ -77,7 +77,8 @@ build() { # WHAT FILE COMMAND CRATE
     all=$(crates_for "$4")
     announce "$1" "$all"
     scratch=$(mktemp -d) && mkfifo "$scratch/said" && : >"$scratch/begun" || return 1
-    setsid sh -c 'cd "$1" && rt "$2" "$3" && : >"$4"' sh "$root" "$3" "$4" "$scratch/proved" >"$scratch/said" 2>&1 9>&- &
+    setsid sh -c 'cd "$1" && rt "$2" "$3" && : >"$4"' sh "$root" "$3" "$4" "$scratch/proved" \
+        >"$scratch/said" 2>&1 9>&- &
     toolchain=$!
     trap 'kill -TERM "-$toolchain" 2>/dev/null; rm -rf "$scratch"; exit 3' HUP INT TERM
     progress "$scratch/log" "$(echo "$all" | wc -l)" <"$scratch/said" &

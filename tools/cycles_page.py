@@ -33,9 +33,8 @@ A routine's costs are counted from this page alone. It is made from the table by
 - **bytes**: in hexadecimal, the opcode first. Small letters stand for the operand: `dd`, `ii`, `ff` and `mm` as above,
   `hh ll` and `jj kk` high byte first, `rr` the target's distance from the end of the instruction, -128 to 127.
 - **length**: in bytes.
-- **cycles**: of the E clock: the same whatever the data, and for a branch the same whether it is taken or not. `TEST`,
-  `WAI` and `STOP` alone, which wait, take no fixed number; no routine may use them, and what stands here counts for
-  nothing.
+- **cycles**: of the E clock: the same whatever the data, and for a branch the same whether it is taken or not. `WAI`,
+  `STOP` and `TEST` wait: no routine may use them, and the number that stands here counts for nothing.
 - **rules**: what the rules make of it, below.
 
 What has no row is no instruction (cause 10). Forms that one may look for in vain:
