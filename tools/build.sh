@@ -35,13 +35,17 @@ crates_for() { # CRATE
         END { take(wanted) }' "$root/crates.txt"
 }
 
+counted() { # NUMBER THING
+    printf '%s %s%s' "$1" "$2" "$([ "$1" -eq 1 ] || echo s)"
+}
+
 # What is to do, and about how long it takes on two processors: half a minute for each crate that was never proved.
 announce() { # WHAT CRATES
     new=0
     for crate in $2; do [ -e "$root/target/stamp/$crate" ] || new=$((new + 1)); done
     if [ "$new" -gt 0 ]; then
         minutes=$(((new + 1) / 2))
-        say "proving and building $1: $new crates, about $minutes minute$([ "$minutes" -eq 1 ] || echo s)"
+        say "proving and building $1: $(counted "$new" crate), about $(counted "$minutes" minute)"
     else
         say "a source has changed: looking what is to be proved again for $1"
     fi
@@ -52,7 +56,7 @@ progress() { # LOG ALL
     n=0
     tee "$1" | while IFS= read -r line; do
         case $line in
-        'rt: '*' proved ('*)
+        'rt: '*' proved ('* | 'rt: target/staticlib/'*)
             n=$((n + 1))
             printf '  %s of %s: %s\n' "$n" "$2" "${line#rt: }" >&2
             ;;
@@ -72,7 +76,7 @@ build() { # WHAT FILE COMMAND CRATE
     if ! flock -n 9; then
         say 'another command is building; this one goes on when it has ended'
         flock 9 || return 1
-        ! newer "$2" || return 0
+        ! newer "$2" || { exec 9>&-; return 0; }
     fi
     all=$(crates_for "$4")
     announce "$1" "$all"
@@ -83,17 +87,17 @@ build() { # WHAT FILE COMMAND CRATE
     trap 'kill -TERM "-$toolchain" 2>/dev/null; rm -rf "$scratch"; exit 3' HUP INT TERM
     progress "$scratch/log" "$(echo "$all" | wc -l)" <"$scratch/said" &
     wait "$!" # a signal does not wait
-    trap - HUP INT TERM
-    exec 9>&-
+    trap 'exit 3' HUP INT TERM
+    built=1
     if [ -e "$scratch/proved" ]; then
-        mkdir -p "$root/target/built" && touch -r "$scratch/begun" "$(stamp "$2")"
-        rm -rf "$scratch"
+        mkdir -p "$root/target/built" && touch -r "$scratch/begun" "$(stamp "$2")" && built=0
     else
         tail -n 20 "$scratch/log" >&2
         say "$1 could not be built; these are the last lines of what the toolchain said"
-        rm -rf "$scratch"
-        return 1
     fi
+    rm -rf "$scratch"
+    exec 9>&- # whoever waits sees the stamp
+    return "$built"
 }
 
 # The checking program and the desk stepper, target/bin/press and target/bin/trace.
