@@ -64,6 +64,17 @@ static void check_judging(size_t guard)
     take_back(&place);
 }
 
+/* What a start answers where one of its buffers is missing, and a start from a slot. */
+static const struct {
+    const char *start, *from_slot;
+    uint32_t outcome, slot_outcome;
+} lacking[] = {
+    {"no ticket", "no slot", JUGROND_TICKET_CUT, JUGROND_BAD_LENGTH},
+    {"no image", "no image", JUGROND_BAD_IMAGE, JUGROND_BAD_IMAGE},
+    {"no registers", "no registers", JUGROND_BAD_LENGTH, JUGROND_BAD_LENGTH},
+    {"no memory", "no memory", JUGROND_BAD_LENGTH, JUGROND_BAD_LENGTH},
+};
+
 static void check_starting(size_t guard)
 {
     static const uint8_t zeros[JUGROND_SLOT_BYTES];
@@ -75,31 +86,21 @@ static void check_starting(size_t guard)
     t = lend(ticket, P_TICKET_BYTES, guard);
     i = lend(image, P_IMAGE_BYTES, guard);
     m = lend(memory, sizeof memory, guard);
-    expect_number("start", "no ticket",
-                  jugrond_start(NULL, 0, i.bytes, i.length, r.bytes, r.length, m.bytes, m.length, p),
-                  JUGROND_TICKET_CUT);
-    expect_number("start", "no image",
-                  jugrond_start(t.bytes, t.length, NULL, 0, r.bytes, r.length, m.bytes, m.length, p),
-                  JUGROND_BAD_IMAGE);
-    expect_number("start", "no registers",
-                  jugrond_start(t.bytes, t.length, i.bytes, i.length, NULL, 0, m.bytes, m.length, p),
-                  JUGROND_BAD_LENGTH);
-    expect_number("start", "no memory",
-                  jugrond_start(t.bytes, t.length, i.bytes, i.length, r.bytes, r.length, NULL, 0, p),
-                  JUGROND_BAD_LENGTH);
+    for (size_t k = 0; k < 4; k++) {
+        struct lent b[] = {t, i, r, m}, c[] = {s, i, r, m};
+
+        b[k].bytes = c[k].bytes = NULL;
+        b[k].length = c[k].length = 0;
+        expect_number("start", lacking[k].start,
+                      jugrond_start(b[0].bytes, b[0].length, b[1].bytes, b[1].length, b[2].bytes, b[2].length,
+                                    b[3].bytes, b[3].length, p),
+                      lacking[k].outcome);
+        expect_number("start from a slot", lacking[k].from_slot,
+                      jugrond_start_certified(c[0].bytes, c[0].length, c[1].bytes, c[1].length, c[2].bytes,
+                                              c[2].length, c[3].bytes, c[3].length, p),
+                      lacking[k].slot_outcome);
+    }
     expect_number("start", "nothing", jugrond_start(NULL, 0, NULL, 0, NULL, 0, NULL, 0, p), JUGROND_BAD_LENGTH);
-    expect_number("start from a slot", "no slot",
-                  jugrond_start_certified(NULL, 0, i.bytes, i.length, r.bytes, r.length, m.bytes, m.length, p),
-                  JUGROND_BAD_LENGTH);
-    expect_number("start from a slot", "no image",
-                  jugrond_start_certified(s.bytes, s.length, NULL, 0, r.bytes, r.length, m.bytes, m.length, p),
-                  JUGROND_BAD_IMAGE);
-    expect_number("start from a slot", "no registers",
-                  jugrond_start_certified(s.bytes, s.length, i.bytes, i.length, NULL, 0, m.bytes, m.length, p),
-                  JUGROND_BAD_LENGTH);
-    expect_number("start from a slot", "no memory",
-                  jugrond_start_certified(s.bytes, s.length, i.bytes, i.length, r.bytes, r.length, NULL, 0, p),
-                  JUGROND_BAD_LENGTH);
     expect_bytes("starting", "ticket", &t, ticket);
     expect_bytes("starting", "image", &i, image);
     expect_bytes("starting", "slot", &s, filled);
