@@ -1,4 +1,5 @@
-# P, damaged so that it is refused: once for each cause of a verdict. To be sourced; $root is the repository.
+# P, damaged so that it is refused: once for each cause of a verdict. To be sourced after tests/shared.sh; $root is the
+# repository.
 #
 # shellcheck shell=sh disable=SC2154
 #
@@ -7,11 +8,6 @@
 # P's two files in the current folder.
 undamaged() {
     cp "$root/examples/p/p.bin" press.bin && cp "$root/examples/p/p.tkt" press.tkt
-}
-
-patched() { # FILE OFFSET BYTES, in octal
-    # shellcheck disable=SC2059
-    printf "$3" | dd of="$1" bs=1 seek="$2" conv=notrunc status=none
 }
 
 ticket() { patched press.tkt "$@"; }

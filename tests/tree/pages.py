@@ -13,7 +13,7 @@ WIDTH = 120
 # made or compared by programs, not read as pages
 DATA = re.compile(r'crates/\w+/(data/|stdout$)|tests/(edits/samples|trace/expected)/|tests/laws/statements\.txt$'
                   r'|examples/.*\.(bin|tkt)$')
-FOLDERS = 'crates', 'docs', 'tests', 'tools', 'bench', 'include', 'examples', '.ci'
+FOLDERS = 'crates', 'docs', 'tests', 'tools', 'bench', 'include', 'c', 'examples', '.ci'
 
 
 def tracked(root):

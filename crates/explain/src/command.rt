@@ -1,12 +1,12 @@
 // What stands at an offset of the ticket: a command, with the mark that it belongs to, or a byte after the end.
-use crate::print::byte;
-use crate::print::text;
-use crate::print::word;
+use crate::hex::byte;
+use crate::hex::word;
 use answers::Refusal;
 use commands::command::Command;
 use commands::encode::width_of;
 use commands::parse::ParsedCommand;
 use commands::parse::parse;
+use output::text;
 
 // A mark's address, or none.
 enum MarkAddress {
@@ -28,8 +28,7 @@ fn name(b: u8) {
 }
 
 fn command(b: u8) {
-    text(b"command ");
-    byte(b);
+    byte(b"command $", b);
     text(b" (");
     name(b);
     text(b")");
@@ -82,20 +81,14 @@ fn own_address(ticket: &[u8], at: usize) -> MarkAddress {
 
 fn after(m: MarkAddress) {
     match m {
-        MarkAddress::At(a) => {
-            text(b", after the mark at ");
-            word(a);
-        }
+        MarkAddress::At(a) => word(b", after the mark at $", a),
         MarkAddress::Nowhere => text(b", before the first mark"),
     }
 }
 
 fn mark(ticket: &[u8], place: u32) {
     match own_address(ticket, place as usize) {
-        MarkAddress::At(a) => {
-            text(b", of the mark at ");
-            word(a);
-        }
+        MarkAddress::At(a) => word(b", of the mark at $", a),
         MarkAddress::Nowhere => after(mark_before(ticket, place)),
     }
 }
@@ -121,8 +114,7 @@ fn command_line(ticket: &[u8], place: u32) {
 fn byte_line(ticket: &[u8], place: u32) {
     let at = place as usize;
     if at < ticket.len() {
-        text(b"byte ");
-        byte(ticket[at]);
+        byte(b"byte $", ticket[at]);
         text(b", after the end\n");
     }
 }

@@ -1,9 +1,9 @@
 // Figures of the ticket that a refusal is about.
-use crate::print::counted;
-use crate::print::text;
-use crate::print::word;
+use crate::hex::word;
 use commands::header::Header;
 use commands::header::Window;
+use output::decimal;
+use output::text;
 use registers::word::wrapping_add;
 use registers::word::wrapping_sub;
 
@@ -14,24 +14,32 @@ pub fn window_line(name: &[u8], w: Window) {
         text(b" empty\n");
         return;
     }
-    text(b" ");
-    word(w.start);
-    text(b" to ");
-    word(wrapping_sub(wrapping_add(w.start, w.length), 1));
+    word(b" $", w.start);
+    word(b" to $", wrapping_sub(wrapping_add(w.start, w.length), 1));
     text(b"\n");
+}
+
+// A number of things, with their name in the singular.
+fn number_of(n: u64, thing: &[u8]) {
+    decimal(n);
+    text(b" ");
+    text(thing);
+    if n != 1 {
+        text(b"s");
+    }
 }
 
 pub fn lengths_line(code: Window, image: &[u8]) {
     text(b"image ");
-    counted(image.len() as u64, b"byte");
+    number_of(image.len() as u64, b"byte");
     text(b", code window ");
-    counted(code.length as u64, b"byte");
+    number_of(code.length as u64, b"byte");
     text(b"\n");
 }
 
 fn limit_line(cycles: u32) {
     text(b"limit ");
-    counted(cycles as u64, b"cycle");
+    number_of(cycles as u64, b"cycle");
     text(b"\n");
 }
 

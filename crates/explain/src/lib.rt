@@ -1,18 +1,19 @@
 // An inner crate: what a person is told of a routine that is refused. Below the line of the checking program: the cause
-// in words, what stands at the place, and what to do.
+// in words, what stands at the place, and what to do. Of what is printed nothing is promised but the proved lines;
+// tests/trace and tests/refusals compare it.
 use crate::command::ticket_line;
 use crate::figures::figures_line;
 use crate::figures::lengths_line;
+use crate::hex::word;
 use crate::place::place_line;
-use crate::print::decimal;
-use crate::print::text;
-use crate::print::word;
 use crate::words::to_do;
 use crate::words::words;
 use answers::Refusal;
 use answers::Verdict;
 use io::write_all;
 use libc::STDOUT_FILENO;
+use output::decimal;
+use output::text;
 use text::verdict::put_verdict;
 use ticket::answer::ReadAnswer;
 use ticket::fields::Ticket;
@@ -22,7 +23,7 @@ mod words; // what a cause says, and what to do
 mod command; // what stands at an offset of the ticket
 mod place; // the instruction at an address
 mod figures; // windows, lengths and the limit
-mod print; // text and numbers on standard output
+mod hex; // numbers in hexadecimal
 
 fn verdict_line(x: Refusal) {
     let mut line = [0u8; 64];
@@ -37,12 +38,10 @@ fn cause_line(x: Refusal) {
     let place = (x.place % 65536) as u16;
     decimal(x.number as u64);
     if x.number < 9 {
-        text(b" at offset ");
-        word(place);
+        word(b" at offset $", place);
     }
     if 9 < x.number {
-        text(b" at ");
-        word(place);
+        word(b" at $", place);
     }
     text(b": ");
     words(x.number);

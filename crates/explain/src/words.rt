@@ -1,5 +1,5 @@
 // The words of docs/REFUSALS.md, to the letter: tests/refusals compares them.
-use crate::print::text;
+use output::text;
 
 // What a cause says.
 pub fn words(number: u8) {

@@ -1,4 +1,4 @@
-// An inner crate of the programs that are run as tests: text, numbers and registers on standard output.
+// An inner crate of the programs: text, numbers and registers on standard output.
 use io::print_decimal;
 use io::print_hex;
 use io::write_all;
