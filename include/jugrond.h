@@ -29,8 +29,8 @@ extern "C" {
  * 10000 * major + 100 * minor + patch. docs/CHANGELOG.md says what each version changes. Major rises where a caller
  * has to change something, minor where something is added.
  */
-#define JUGROND_VERSION "1.2.0"
-#define JUGROND_VERSION_NUMBER 10200
+#define JUGROND_VERSION "1.2.1"
+#define JUGROND_VERSION_NUMBER 10201
 
 #define JUGROND_REGISTER_BYTES 11
 #define JUGROND_MEMORY_BYTES 65536

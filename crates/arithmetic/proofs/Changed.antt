@@ -1,13 +1,15 @@
 -- The byte of the condition codes, where some of them are changed: the kept bits are parts of the byte as it was.
 -- Assumes nothing.
-use mathlib.Core.Path.{_≡_}
+use mathlib.Core.Path.{_≡_, ap}
 use mathlib.Core.Bool.{Bool}
 use Prim.Native.Nat.{ℕ, _+_, _*_, _/_, _%_, _<_}
 use native.Mathlib.Omega.{arith}
 use Rattle.registers.proofs.Bits.{digit}
-use Rattle.registers.specs.Flags.{bit, flagsOf, byteOf}
+use Rattle.registers.proofs.FlagsByte.{of-byte}
+use Rattle.registers.specs.declared.flags.Flags.{Flags}
+use Rattle.registers.specs.Flags.{bit, low, flagsOf, byteOf}
 use Rattle.lists.specs.Bit.{one}
-use Rattle.arithmetic.specs.Codes.{withNzvc, withHnzvc}
+use Rattle.arithmetic.specs.Codes.{withNzvc, withHnzvc, withV}
 
 module _ (f : ℕ) (l : f < 256) where
   -- S and X
@@ -30,3 +32,14 @@ module _ (f : ℕ) (l : f < 256) where
   pub nzvc-byte : (n z v c : Bool) → byteOf (withNzvc (flagsOf f) n z v c)
       ≡ f / 16 * 16 + 8 * one n + 4 * one z + 2 * one v + one c
   nzvc-byte n z v c = omega (arith, top, middle)
+
+  -- S to Z
+  upper : f / 16 * 16 + 8 * one (bit 3 f) + 4 * one (bit 2 f) ≡ f / 4 * 4
+  upper = rw (digit (f / 8 % 2) (omega arith), digit (f / 4 % 2) (omega arith)) (omega arith)
+
+  pub v-byte : (v : Bool) → byteOf (withV (flagsOf f) v) ≡ f / 4 * 4 + 2 * one v + f % 2
+  v-byte v = omega (arith, nzvc-byte (bit 3 f) (bit 2 f) v (low f), upper, digit (f % 2) (omega arith))
+
+-- V changed in the byte is V changed in the flags
+pub v-changed : (f : Flags) (v : Bool) → byteOf (withV (flagsOf (byteOf f)) v) ≡ byteOf (withV f v)
+v-changed f v = ap (λ (g : Flags). byteOf (withV g v)) (of-byte f)

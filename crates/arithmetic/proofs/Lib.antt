@@ -1,4 +1,6 @@
 pub mod Changed
 pub mod Bits
 pub mod Carries
+pub mod Overflow
+pub mod Negation
 pub mod Product

@@ -9,6 +9,7 @@ ghost use Rattle.arithmetic.specs.Byte.{add8Of, sub8Of, logic8Of, tstOf,
 ghost use Rattle.arithmetic.specs.Byte.{bsetOf, bclrOf};
 use crate::codes::overflow;
 use crate::codes::with_hnzvc;
+use crate::codes::with_low_v;
 use crate::codes::with_nzv;
 use crate::codes::with_nzvc;
 use lists::bit::one;
@@ -20,7 +21,7 @@ pub struct ByteResult {
     pub flags: u8,
 }
 
-// ADD, ADC, ABA. H and C are read off the sums of the low half-bytes and of the bytes.
+// ADD, ADC, ABA. H and C are read off the sums of the low half-bytes and of the bytes. V is put in last.
 pub fn add8(x: u8, m: u8, carry: bool, f: u8) -> ByteResult
     ensures { λ r. ⌜ r ≡ packed8 (add8Of x m carry (flagsOf f)) ⌝ }
 {
@@ -28,11 +29,10 @@ pub fn add8(x: u8, m: u8, carry: bool, f: u8) -> ByteResult
     let half = x % 16 + m % 16 + k;
     let sum = (x as u16) + (m as u16) + (k as u16);
     let r = (sum % 256) as u8;
-    let n = r / 128 % 2 == 1;
-    let v = overflow(x / 128 % 2 == 1, m / 128 % 2 == 1, n);
+    let g = with_hnzvc(f, 15 < half, r / 128 % 2 == 1, r == 0, false, 255 < sum);
     ByteResult {
         value: r,
-        flags: with_hnzvc(f, 15 < half, n, r == 0, v, 255 < sum),
+        flags: with_low_v(g, overflow(x as u16, m as u16, r as u16) / 128),
     }
 }
 
@@ -46,16 +46,18 @@ pub fn coded(r: u8, v: bool, c: bool, f: u8) -> ByteResult
     }
 }
 
-// SUB, SBC, CMP, SBA, CBA. C says that what is taken away is more than x.
+// SUB, SBC, CMP, SBA, CBA, and NEG, where x is 0. C says that what is taken away is more than x.
 pub fn sub8(x: u8, m: u8, borrow: bool, f: u8) -> ByteResult
     ensures { λ r. ⌜ r ≡ packed8 (sub8Of x m borrow (flagsOf f)) ⌝ }
 {
     let from = x as u16;
     let less = (m as u16) + (one(borrow) as u16);
     let r = ((from + 256 - less) % 256) as u8;
-    let m7 = m / 128 % 2 == 1;
-    let v = overflow(x / 128 % 2 == 1, !m7, r / 128 % 2 == 1);
-    coded(r, v, from < less, f)
+    let g = with_nzvc(f, r / 128 % 2 == 1, r == 0, false, from < less);
+    ByteResult {
+        value: r,
+        flags: with_low_v(g, overflow(m as u16, r as u16, from) / 128),
+    }
 }
 
 // Loads, stores, transfers and the logical operations.
@@ -89,10 +91,7 @@ pub fn unary(u: Unary, m: u8, f: u8) -> ByteResult
     let c = f % 2 == 1;
     let k = one(c);
     match u {
-        Unary::Neg => {
-            let r = ((256 - w) % 256) as u8;
-            coded(r, r == 0x80, r != 0, f)
-        }
+        Unary::Neg => sub8(0, m, false, f),
         Unary::Com => coded(255 - m, false, true, f),
         Unary::Lsr => shifted(m / 2, low, f),
         Unary::Ror => shifted(m / 2 + 128 * k, low, f),

@@ -1,8 +1,9 @@
 // The byte of the condition codes with some of them changed, and V of a sum or a difference.
 ghost use mathlib.Core.Path.{_≡_};
-ghost use Rattle.registers.specs.Flags.{flagsOf, byteOf};
+ghost use Prim.Native.Nat.{ℕ};
+ghost use Rattle.registers.specs.Flags.{bit, low, flagsOf, byteOf};
 ghost use Rattle.arithmetic.specs.Codes.{withNzvc, withNzv, withHnzvc, withZ, withV, withC, withZvc};
-ghost use Rattle.arithmetic.specs.Codes.{overflowBits};
+ghost use Rattle.arithmetic.specs.Codes.{overflowSum};
 use lists::bit::one;
 
 // S, X, H and I stay: they are the upper half of the byte.
@@ -49,10 +50,17 @@ pub fn with_zvc(f: u8, z: bool, v: bool, c: bool) -> u8
     with_nzvc(f, f / 8 % 2 == 1, z, v, c)
 }
 
-// V of the sum of x and m, from their sign bits and the result's. A difference is such a sum with m's sign bit turned
-// round.
-pub fn overflow(x: bool, m: bool, r: bool) -> bool
-    ensures { λ o. ⌜ o ≡ overflowBits x m r ⌝ }
+// V as the lowest bit of n, with no test of it.
+pub fn with_low_v(f: u8, n: u16) -> u8
+    ensures { λ r. ⌜ r ≡ byteOf (withV (flagsOf f) (low n)) ⌝ }
 {
-    (x & m & !r) | (!x & !m & r)
+    f / 4 * 4 + 2 * ((n % 2) as u8) + f % 2
+}
+
+// V of the sum r of x and m, at every bit: a byte's is bit 7 and a word's bit 15. It is set where r differs from both.
+// Where r is the difference of x and m, x is the sum of m and r.
+pub fn overflow(x: u16, m: u16, r: u16) -> u16
+    ensures { λ o. ⌜ ((k : ℕ) → bit k o ≡ overflowSum k x m r) ⌝ }
+{
+    (x ^ r) & (m ^ r)
 }
