@@ -54,7 +54,7 @@ full h false false true false i j k l e = refl
 full h false false false true i j k l e = absurd (omega arith)
 full h false false false false i j k l e = refl
 
-bit-one : (b : Bool) → bit 0 (one b) ≡ b
+pub bit-one : (b : Bool) → bit 0 (one b) ≡ b
 bit-one true = refl
 bit-one false = refl
 

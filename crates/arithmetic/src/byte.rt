@@ -21,7 +21,8 @@ pub struct ByteResult {
     pub flags: u8,
 }
 
-// ADD, ADC, ABA. H and C are read off the sums of the low half-bytes and of the bytes. V is put in last.
+// ADD, ADC, ABA. H and C are read off the sums of the low half-bytes and of the bytes. V, which stays a
+// number, is put in last.
 pub fn add8(x: u8, m: u8, carry: bool, f: u8) -> ByteResult
     ensures { λ r. ⌜ r ≡ packed8 (add8Of x m carry (flagsOf f)) ⌝ }
 {
@@ -53,7 +54,8 @@ pub fn sub8(x: u8, m: u8, borrow: bool, f: u8) -> ByteResult
     let from = x as u16;
     let less = (m as u16) + (one(borrow) as u16);
     let r = ((from + 256 - less) % 256) as u8;
-    let g = with_nzvc(f, r / 128 % 2 == 1, r == 0, false, from < less);
+    let b = coded(r, false, from < less, f);
+    let g = b.flags;
     ByteResult {
         value: r,
         flags: with_low_v(g, overflow(m as u16, r as u16, from) / 128),

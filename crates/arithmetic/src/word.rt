@@ -28,11 +28,12 @@ fn coded(r: u16, v: bool, c: bool, f: u8) -> WordResult
     }
 }
 
-// The same with V as bit 15 of o.
-fn coded_sum(r: u16, o: u16, c: bool, f: u8) -> WordResult
+// The same with V as bit 15 of o, which `overflow` answered.
+fn coded_by_overflow(r: u16, o: u16, c: bool, f: u8) -> WordResult
     ensures { λ w. ⌜ w ≡ packed16 (result r (withNzvc (flagsOf f) (bit 15 r) (eqb r 0) (bit 15 o) c)) ⌝ }
 {
-    let g = with_nzvc(f, r / 32768 % 2 == 1, r == 0, false, c);
+    let w = coded(r, false, c, f);
+    let g = w.flags;
     WordResult {
         value: r,
         flags: with_low_v(g, o / 32768),
@@ -45,7 +46,7 @@ pub fn add16(x: u16, m: u16, f: u8) -> WordResult
 {
     let sum = (x as u32) + (m as u32);
     let r = (sum % 65536) as u16;
-    coded_sum(r, overflow(x, m, r), 65535 < sum, f)
+    coded_by_overflow(r, overflow(x, m, r), 65535 < sum, f)
 }
 
 // SUBD, CPD, CPX, CPY. C says that m is more than x.
@@ -53,7 +54,7 @@ pub fn sub16(x: u16, m: u16, f: u8) -> WordResult
     ensures { λ r. ⌜ r ≡ packed16 (sub16Of x m (flagsOf f)) ⌝ }
 {
     let r = wrapping_sub(x, m);
-    coded_sum(r, overflow(m, r, x), x < m, f)
+    coded_by_overflow(r, overflow(m, r, x), x < m, f)
 }
 
 // Loads and stores.

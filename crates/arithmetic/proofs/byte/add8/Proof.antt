@@ -1,4 +1,5 @@
--- `add8` meets its contract: H and C are the carries of the two sums, and V a bit of a number.
+-- `add8` meets its contract: H and C are the carries of the two sums, and V is bit 7 of what
+-- `overflow` answers.
 -- Assumes nothing.
 use borrow.Author.Needs.{needs}
 use mathlib.Core.Path.{refl}

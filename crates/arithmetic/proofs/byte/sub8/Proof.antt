@@ -1,4 +1,4 @@
--- `sub8` meets its contract: C is the borrow, and V that of the sum of m and r.
+-- `sub8` meets its contract: C is the borrow, and V that of the sum x of m and r.
 -- Assumes nothing.
 use borrow.Author.Needs.{needs}
 use mathlib.Core.Bool.{false}
@@ -25,7 +25,7 @@ returns c =
     simp (
       c .with-low-v .ensures,
       c .before .overflow .ensures 7,
-      c .before .before .with-nzvc .ensures,
+      c .before .before .coded .ensures,
       c .before .before .before .one .ensures .0,
       v-changed (withNzvc (flagsOf (a .f)) (bit 7 r) (eqb r 0) false (ltb (a .x) less))
           (overflowDifference 7 (a .x) (a .m) r),

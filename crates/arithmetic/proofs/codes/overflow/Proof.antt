@@ -5,7 +5,7 @@ use Rattle.arithmetic.proofs.codes.overflow.Statement.{statement}
 use Rattle.arithmetic.proofs.codes.overflow.Tie as tie
 
 returns : tie.Need-returns
-returns c = let a = c .args in overflow-bit (a .x) (a .m) (a .r)
+returns c = let a = c .args in λ k. overflow-bit k (a .x) (a .m) (a .r)
 
 pub overflow-spec : {M : Type 1} → statement M
 overflow-spec = tie.close (tie.spec returns)

@@ -1,4 +1,4 @@
--- `sub16` meets its contract: C is the borrow, and V that of the sum of m and r.
+-- `sub16` meets its contract: C is the borrow, and V that of the sum x of m and r.
 -- Assumes nothing.
 use borrow.Author.Needs.{needs}
 use mathlib.Core.Bool.{false}
@@ -22,7 +22,7 @@ unfolding sub16Of
 returns c =
     let a = c .before .before .before .args in
     simp (
-      c .coded-sum .ensures,
+      c .coded-by-overflow .ensures,
       c .before .overflow .ensures 15,
       c .before .before .wrapping-sub .ensures,
       difference (a .x) (a .m) (omega arith),
