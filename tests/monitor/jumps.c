@@ -1,10 +1,11 @@
 /*
- * No conditional jump of the host depends on the condition codes of a sum or a difference, V among them. To be run
- * under valgrind: what an instruction computes with is marked as undefined, and valgrind counts each conditional jump,
- * and each address, that depends on it. Of each instruction: a run over it counts none, so the way taken is that of all
- * operands; V, which was defined, is then undefined, so the run computed it from what was marked; and a run over BVS,
- * with V alone undefined, counts its jump. Prints a line for each difference, and last the count of instructions; the
- * exit status tells.
+ * While a sum or a difference is executed, no conditional jump of the host depends on its condition codes, V among
+ * them. To be run under valgrind: what an instruction computes with is marked as undefined, and valgrind counts each
+ * conditional jump, and each address, that depends on it. Of each instruction: a run over it counts none, so at these
+ * addresses the way taken is that of all operands; V, which was defined, is then undefined, so the run computed it from
+ * what was marked; and a run over BVS, with V alone undefined, counts its jump, so valgrind does look. An index stays
+ * defined, as an address that depends on it is counted: of CPX IND,X and CPY IND,Y the word in memory alone is marked.
+ * Prints a line for each difference, and last the count of instructions; the exit status tells.
  */
 #include "jugrond.h"
 
@@ -20,11 +21,10 @@ enum { BUDGET = 20, INSTRUCTIONS = 83 };
 static uint8_t memory[JUGROND_MEMORY_BYTES], registers[JUGROND_REGISTER_BYTES];
 static unsigned instructions;
 
-/* An instruction's bytes, and how many of its last ones are an immediate operand. */
+/* An instruction's bytes, how many of its last ones are an immediate operand, and the offset of its index, or 0. */
 struct code {
     uint8_t bytes[5];
-    size_t length, immediate;
-    bool indexed;
+    size_t length, immediate, index;
 };
 
 static void put(struct code *c, unsigned byte)
@@ -41,7 +41,7 @@ static void put_word(struct code *c, unsigned word)
 /* The prefix, where there is one, and the opcode. */
 static struct code opcode(unsigned prefix, unsigned byte)
 {
-    struct code c = {{0}, 0, 0, false};
+    struct code c = {{0}, 0, 0, 0};
 
     if (prefix != 0)
         put(&c, prefix);
@@ -57,11 +57,11 @@ static struct code extended(unsigned prefix, unsigned byte)
     return c;
 }
 
-static struct code indexed(unsigned prefix, unsigned byte)
+static struct code indexed(unsigned prefix, unsigned byte, size_t index)
 {
     struct code c = opcode(prefix, byte);
 
-    c.indexed = true;
+    c.index = index;
     put(&c, 0);
     return c;
 }
@@ -85,7 +85,7 @@ static bool v_is_undefined(void)
     return (bits & V) != 0;
 }
 
-/* Registers and memory before the instruction, which NOPs follow. X and Y are addresses where they are an index. */
+/* Registers and memory before the instruction, which NOPs follow: all that it computes with is undefined but V. */
 static void make(const struct code *c)
 {
     static const uint8_t start[JUGROND_REGISTER_BYTES] = {0x12, 0x34, FAR >> 8,  FAR & 0xFF,  FAR >> 8, FAR & 0xFF,
@@ -97,9 +97,11 @@ static void make(const struct code *c)
     undefine(memory + NEAR, WORD);
     undefine(memory + FAR, WORD);
     undefine(memory + CODE + c->length - c->immediate, c->immediate);
-    undefine(registers + JUGROND_A, 2);
-    if (!c->indexed)
-        undefine(registers + JUGROND_X, 4);
+    undefine(registers + JUGROND_A, WORD);
+    if (c->index != JUGROND_X)
+        undefine(registers + JUGROND_X, WORD);
+    if (c->index != JUGROND_Y)
+        undefine(registers + JUGROND_Y, WORD);
     undefine_flags(0xFF & ~V);
 }
 
@@ -148,8 +150,8 @@ static void check_modes(unsigned first, size_t width, unsigned prefix, unsigned 
     check(immediate);
     check(direct);
     check(extended(prefix, first + 0x30));
-    check(indexed(prefix_x, first + 0x20));
-    check(indexed(prefix_y, first + 0x20));
+    check(indexed(prefix_x, first + 0x20, JUGROND_X));
+    check(indexed(prefix_y, first + 0x20, JUGROND_Y));
 }
 
 int main(void)
@@ -174,8 +176,8 @@ int main(void)
     for (i = 0; i < sizeof inherent; i++)
         check(opcode(0, inherent[i]));
     check(extended(0, 0x70)); /* NEG */
-    check(indexed(0, 0x60));
-    check(indexed(0x18, 0x60));
+    check(indexed(0, 0x60, JUGROND_X));
+    check(indexed(0x18, 0x60, JUGROND_Y));
     expect_number("all", "instructions", instructions, INSTRUCTIONS);
     printf("jumps: %u instructions, %d differences\n", instructions, differences);
     return differences == 0 ? 0 : 1;

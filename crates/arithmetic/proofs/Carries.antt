@@ -6,7 +6,6 @@ use mathlib.Core.Bool.{Bool, true, false, not, _&&_, _||_, or-assoc, or-comm}
 use Prim.Native.Nat.{ℕ, suc, _+_, _-_, _*_, _/_, _%_, _^_, _≤_, _<_}
 use native.Mathlib.Nat.{mod-lt, mod-eq-of-lt, mod-eq-sub-mod, mod-mod}
 use native.Mathlib.Omega.{arith}
-use package.borrow.Author.Tests.{leb-true, leb-false}
 use lib.Arith.{mod-mul}
 use lib.Dec.{leb, ltb}
 use lib.Pow.{pow-pos}
@@ -14,14 +13,7 @@ use Rattle.registers.proofs.Bits.{one≤, digit}
 use Rattle.registers.specs.Flags.{bit}
 use Rattle.lists.specs.Bit.{one}
 use Rattle.arithmetic.specs.Codes.{carry, borrow}
-
--- what holds of a test's two outcomes holds of the test
-at-test : (P : Bool → Type 0) (a b : ℕ) → (a ≤ b → P true) → (b < a → P false) → P (leb a b)
-at-test P a b above below = go (leb a b) (leb-true a b) (leb-false a b)
-  where
-    go : (t : Bool) → (t ≡ true → a ≤ b) → (t ≡ false → b < a) → P t
-    go true h l = above (h refl)
-    go false h l = below (l refl)
+use Rattle.arithmetic.proofs.Outcomes.{at-leb}
 
 -- the numbers of the bits 0 to k are those below the span of k
 abbrev span : ℕ → ℕ
@@ -79,7 +71,7 @@ pub carry-test : (k x m r n : ℕ) (c : Bool) → n ≡ x % span k + m % span k 
     carry k x m r ≡ leb (span k) n
 carry-test k x m r n c s e =
     carry-is k x m r c (leb (span k) n)
-    (at-test (λ (q : Bool). x % span k + m % span k + one c ≡ one q * span k + r % span k) (span k) n
+    (at-leb (λ (q : Bool). x % span k + m % span k + one c ≡ one q * span k + r % span k) (span k) n
     (λ h. omega (arith, mod-eq-sub-mod h, mod-eq-of-lt (below h)))
     (λ h. omega (arith, mod-eq-of-lt h)))
   where
@@ -94,7 +86,7 @@ borrow-test k x m r t c a b s e =
     let own-m : m % span k ≡ m = mod-eq-of-lt b in
     let own-r : r % span k ≡ r = ap (λ (y : ℕ). y % span k) e ∙ mod-mod (x + span k - t) (span k) ∙ sym e in
     rotate (not (bit k x) && bit k m) (bit k m && bit k r) (bit k r && not (bit k x)) ∙ carry-is k m r x c (ltb x t)
-    (at-test (λ (q : Bool). m % span k + r % span k + one c ≡ one q * span k + x % span k) (suc x) t
+    (at-leb (λ (q : Bool). m % span k + r % span k + one c ≡ one q * span k + x % span k) (suc x) t
     (λ h. omega (arith, one≤ c, mod-eq-of-lt (less h)))
     (λ h. omega (arith, mod-eq-sub-mod (more h), mod-eq-of-lt (rest h))))
   where

@@ -1,5 +1,6 @@
 pub mod Changed
 pub mod Bits
+pub mod Outcomes
 pub mod Carries
 pub mod Overflow
 pub mod Negation
