@@ -13,6 +13,7 @@ use Rattle.registers.proofs.Bits.{one≤, digit}
 use Rattle.registers.specs.Flags.{bit}
 use Rattle.lists.specs.Bit.{one}
 use Rattle.arithmetic.specs.Codes.{carry, borrow}
+use Rattle.arithmetic.proofs.Bits.{bit-one}
 use Rattle.arithmetic.proofs.Outcomes.{at-leb}
 
 -- the numbers of the bits 0 to k are those below the span of k
@@ -45,10 +46,6 @@ full h false false true true i j k l e = absurd (omega arith)
 full h false false true false i j k l e = refl
 full h false false false true i j k l e = absurd (omega arith)
 full h false false false false i j k l e = refl
-
-pub bit-one : (b : Bool) → bit 0 (one b) ≡ b
-bit-one true = refl
-bit-one false = refl
 
 -- a sum's carry out of bit k: the sum is q of the span, and the result
 carry-is : (k x m r : ℕ) (c q : Bool) → x % span k + m % span k + one c ≡ one q * span k + r % span k →

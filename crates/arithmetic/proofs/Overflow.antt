@@ -11,7 +11,7 @@ use Rattle.registers.proofs.Bits.{digit}
 use Rattle.registers.specs.Flags.{bit, xor}
 use Rattle.lists.specs.Bit.{one}
 use Rattle.arithmetic.specs.Codes.{overflowBits, overflowSum, overflowDifference}
-use Rattle.arithmetic.proofs.Carries.{bit-one}
+use Rattle.arithmetic.proofs.Bits.{bit-one}
 
 -- an operation that goes digit by digit makes bit k out of the two bits there
 module _ (op : ℕ → ℕ → ℕ) (on : Bool → Bool → Bool)

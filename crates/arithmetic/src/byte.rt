@@ -8,8 +8,8 @@ ghost use Rattle.arithmetic.specs.inner.Packed.{packed8};
 ghost use Rattle.arithmetic.specs.Byte.{add8Of, sub8Of, logic8Of, tstOf, shifted8, unaryOf, logical, binaryOf};
 ghost use Rattle.arithmetic.specs.Byte.{bsetOf, bclrOf};
 use crate::codes::overflow;
-use crate::codes::with_hnzvc;
-use crate::codes::with_low_v;
+use crate::codes::with_h;
+use crate::codes::with_low_bits;
 use crate::codes::with_nzv;
 use crate::codes::with_nzvc;
 use lists::bit::one;
@@ -21,8 +21,7 @@ pub struct ByteResult {
     pub flags: u8,
 }
 
-// ADD, ADC, ABA. H and C are read off the sums of the low half-bytes and of the bytes. V, which stays a
-// number, is put in last.
+// ADD, ADC, ABA. H and C are read off the sums of the low half-bytes and of the bytes.
 pub fn add8(x: u8, m: u8, carry: bool, f: u8) -> ByteResult
     ensures { λ r. ⌜ r ≡ packed8 (add8Of x m carry (flagsOf f)) ⌝ }
 {
@@ -30,10 +29,11 @@ pub fn add8(x: u8, m: u8, carry: bool, f: u8) -> ByteResult
     let half = x % 16 + m % 16 + k;
     let sum = (x as u16) + (m as u16) + (k as u16);
     let r = (sum % 256) as u8;
-    let g = with_hnzvc(f, 15 < half, r / 128 % 2 == 1, r == 0, false, 255 < sum);
+    let g = with_h(f, 15 < half);
+    let o = overflow(x as u16, m as u16, r as u16);
     ByteResult {
         value: r,
-        flags: with_low_v(g, overflow(x as u16, m as u16, r as u16) / 128),
+        flags: with_low_bits(g, (r as u16) / 128, r == 0, o / 128, 255 < sum),
     }
 }
 
@@ -54,11 +54,10 @@ pub fn sub8(x: u8, m: u8, borrow: bool, f: u8) -> ByteResult
     let from = x as u16;
     let less = (m as u16) + (one(borrow) as u16);
     let r = ((from + 256 - less) % 256) as u8;
-    let b = coded(r, false, from < less, f);
-    let g = b.flags;
+    let o = overflow(m as u16, r as u16, from);
     ByteResult {
         value: r,
-        flags: with_low_v(g, overflow(m as u16, r as u16, from) / 128),
+        flags: with_low_bits(f, (r as u16) / 128, r == 0, o / 128, from < less),
     }
 }
 

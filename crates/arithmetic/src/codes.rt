@@ -6,11 +6,18 @@ ghost use Rattle.arithmetic.specs.Codes.{withNzvc, withNzv, withHnzvc, w
 ghost use Rattle.arithmetic.specs.Codes.{overflowSum};
 use lists::bit::one;
 
-// S, X, H and I stay: they are the upper half of the byte.
+// N and V are the lowest bits of n and v, with no test of them. S, X, H and I stay: they are the upper half of the
+// byte.
+pub fn with_low_bits(f: u8, n: u16, z: bool, v: u16, c: bool) -> u8
+    ensures { λ r. ⌜ r ≡ byteOf (withNzvc (flagsOf f) (low n) z (low v) c) ⌝ }
+{
+    f / 16 * 16 + 8 * ((n % 2) as u8) + 4 * one(z) + 2 * ((v % 2) as u8) + one(c)
+}
+
 pub fn with_nzvc(f: u8, n: bool, z: bool, v: bool, c: bool) -> u8
     ensures { λ r. ⌜ r ≡ byteOf (withNzvc (flagsOf f) n z v c) ⌝ }
 {
-    f / 16 * 16 + 8 * one(n) + 4 * one(z) + 2 * one(v) + one(c)
+    with_low_bits(f, one(n) as u16, z, one(v) as u16, c)
 }
 
 pub fn with_nzv(f: u8, n: bool, z: bool, v: bool) -> u8
@@ -19,11 +26,11 @@ pub fn with_nzv(f: u8, n: bool, z: bool, v: bool) -> u8
     with_nzvc(f, n, z, v, f % 2 == 1)
 }
 
-// S, X and I stay.
-pub fn with_hnzvc(f: u8, h: bool, n: bool, z: bool, v: bool, c: bool) -> u8
-    ensures { λ r. ⌜ r ≡ byteOf (withHnzvc (flagsOf f) h n z v c) ⌝ }
+// Only H changes: S and X lie above it.
+pub fn with_h(f: u8, h: bool) -> u8
+    ensures { λ r. ⌜ r ≡ (let g = flagsOf f in byteOf (withHnzvc g h (g .n) (g .z) (g .v) (g .c))) ⌝ }
 {
-    f / 64 * 64 + 32 * one(h) + f / 16 % 2 * 16 + 8 * one(n) + 4 * one(z) + 2 * one(v) + one(c)
+    f / 64 * 64 + 32 * one(h) + f % 32
 }
 
 pub fn with_z(f: u8, z: bool) -> u8
@@ -48,13 +55,6 @@ pub fn with_zvc(f: u8, z: bool, v: bool, c: bool) -> u8
     ensures { λ r. ⌜ r ≡ byteOf (withZvc (flagsOf f) z v c) ⌝ }
 {
     with_nzvc(f, f / 8 % 2 == 1, z, v, c)
-}
-
-// V as the lowest bit of n, with no test of it.
-pub fn with_low_v(f: u8, n: u16) -> u8
-    ensures { λ r. ⌜ r ≡ byteOf (withV (flagsOf f) (low n)) ⌝ }
-{
-    f / 4 * 4 + 2 * ((n % 2) as u8) + f % 2
 }
 
 // V of the sum r of x and m, at every bit: a byte's is bit 7 and a word's bit 15. It is set where r differs from both.

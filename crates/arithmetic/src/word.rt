@@ -8,7 +8,7 @@ ghost use Rattle.arithmetic.specs.inner.Packed.{packed16};
 ghost use Rattle.arithmetic.specs.Word.{add16Of, sub16Of, logic16Of, shifted16, asldOf, lsrdOf, mulOf};
 use crate::codes::overflow;
 use crate::codes::with_c;
-use crate::codes::with_low_v;
+use crate::codes::with_low_bits;
 use crate::codes::with_nzv;
 use crate::codes::with_nzvc;
 use registers::word::wrapping_sub;
@@ -28,25 +28,17 @@ fn coded(r: u16, v: bool, c: bool, f: u8) -> WordResult
     }
 }
 
-// The same with V as bit 15 of o, which `overflow` answered.
-fn coded_by_overflow(r: u16, o: u16, c: bool, f: u8) -> WordResult
-    ensures { λ w. ⌜ w ≡ packed16 (result r (withNzvc (flagsOf f) (bit 15 r) (eqb r 0) (bit 15 o) c)) ⌝ }
-{
-    let w = coded(r, false, c, f);
-    let g = w.flags;
-    WordResult {
-        value: r,
-        flags: with_low_v(g, o / 32768),
-    }
-}
-
 // ADDD. C is read off the sum.
 pub fn add16(x: u16, m: u16, f: u8) -> WordResult
     ensures { λ r. ⌜ r ≡ packed16 (add16Of x m (flagsOf f)) ⌝ }
 {
     let sum = (x as u32) + (m as u32);
     let r = (sum % 65536) as u16;
-    coded_by_overflow(r, overflow(x, m, r), 65535 < sum, f)
+    let o = overflow(x, m, r);
+    WordResult {
+        value: r,
+        flags: with_low_bits(f, r / 32768, r == 0, o / 32768, 65535 < sum),
+    }
 }
 
 // SUBD, CPD, CPX, CPY. C says that m is more than x.
@@ -54,7 +46,11 @@ pub fn sub16(x: u16, m: u16, f: u8) -> WordResult
     ensures { λ r. ⌜ r ≡ packed16 (sub16Of x m (flagsOf f)) ⌝ }
 {
     let r = wrapping_sub(x, m);
-    coded_by_overflow(r, overflow(m, r, x), x < m, f)
+    let o = overflow(m, r, x);
+    WordResult {
+        value: r,
+        flags: with_low_bits(f, r / 32768, r == 0, o / 32768, x < m),
+    }
 }
 
 // Loads and stores.

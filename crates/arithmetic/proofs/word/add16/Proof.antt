@@ -15,7 +15,7 @@ returns c =
     let a = c .before .before .args in
     let sum = a .x + a .m in
     simp (
-      c .coded-by-overflow .ensures,
+      c .with-low-bits .ensures,
       c .before .overflow .ensures 15,
       carry-test 15 (a .x) (a .m) (sum % 65536) sum false (omega arith) (omega arith),
     )

@@ -22,7 +22,7 @@ unfolding sub16Of
 returns c =
     let a = c .before .before .before .args in
     simp (
-      c .coded-by-overflow .ensures,
+      c .with-low-bits .ensures,
       c .before .overflow .ensures 15,
       c .before .before .wrapping-sub .ensures,
       difference (a .x) (a .m) (omega arith),
