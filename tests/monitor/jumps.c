@@ -2,8 +2,8 @@
  * While a sum or a difference is executed, no conditional jump of the host depends on its condition codes, V among
  * them. To be run under valgrind: what an instruction computes with is marked as undefined, and valgrind counts each
  * conditional jump, and each address, that depends on it. Of each instruction: a run over it counts none, so at these
- * addresses the way taken is that of all operands; V, which was defined, is then undefined, so the run computed it from
- * what was marked; and a run over BVS, with V alone undefined, counts its jump, so valgrind does look. An index stays
+ * addresses the way taken is that of all operands; V, which was defined, is then undefined, as it is not where a jump
+ * decides it; and a run over BVS, with V alone undefined, counts its jump, so valgrind does look. An index stays
  * defined, as an address that depends on it is counted: of CPX IND,X and CPY IND,Y the word in memory alone is marked.
  * Prints a line for each difference, and last the count of instructions; the exit status tells.
  */
@@ -133,7 +133,7 @@ static void check(const struct code c)
     snprintf(name, sizeof name, "%02X %02X", c.bytes[0], c.bytes[1]);
     make(&c);
     expect_number(name, "jumps and addresses that depend on the operands", dependent(name), 0);
-    expect_number(name, "V depends on the operands", v_is_undefined(), true);
+    expect_number(name, "V is undefined", v_is_undefined(), true);
     make_bvs();
     expect_number(name, "BVS depends on V", dependent(name) > 0, true);
     instructions++;

@@ -16,20 +16,20 @@ abbrev pub withH : Flags → Bool → Flags
 withH f h = withHnzvc f h (f .n) (f .z) (f .v) (f .c)
 
 module _ (f : ℕ) (l : f < 256) where
-  -- S and X
-  top : 128 * one (bit 7 f) + 64 * one (bit 6 f) ≡ f / 64 * 64
-  top = rw (digit (f / 128 % 2) (omega arith), digit (f / 64 % 2) (omega arith)) (omega arith)
-
-  -- H and I
-  middle : f / 64 * 64 + 32 * one (bit 5 f) + 16 * one (bit 4 f) ≡ f / 16 * 16
-  middle = rw (digit (f / 32 % 2) (omega arith), digit (f / 16 % 2) (omega arith)) (omega arith)
-
   pub nzvc-byte : (n z v c : Bool) → byteOf (withNzvc (flagsOf f) n z v c)
       ≡ f / 16 * 16 + 8 * one n + 4 * one z + 2 * one v + one c
-  nzvc-byte n z v c = omega (arith, top, middle)
+  nzvc-byte n z v c =
+      omega (
+        arith,
+        to-byte f l,
+        digit (f / 8 % 2) (omega arith),
+        digit (f / 4 % 2) (omega arith),
+        digit (f / 2 % 2) (omega arith),
+        digit (f % 2) (omega arith),
+      )
 
   pub h-byte : (h : Bool) → byteOf (withH (flagsOf f) h) ≡ f / 64 * 64 + 32 * one h + f % 32
-  h-byte h = omega (arith, top, digit (f / 32 % 2) (omega arith), to-byte f l)
+  h-byte h = omega (arith, to-byte f l, digit (f / 32 % 2) (omega arith))
 
 -- N, Z, V and C changed in the byte where H was: all five changed
 pub after-h : (f : Flags) (h n z v c : Bool) → byteOf (withNzvc (flagsOf (byteOf (withH f h))) n z v c)

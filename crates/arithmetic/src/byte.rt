@@ -21,6 +21,16 @@ pub struct ByteResult {
     pub flags: u8,
 }
 
+// The byte r with N and Z of it, V as bit 7 of what `overflow` answered, and C as given.
+fn coded_by_overflow(r: u8, o: u16, c: bool, f: u8) -> ByteResult
+    ensures { λ b. ⌜ b ≡ packed8 (result r (withNzvc (flagsOf f) (bit 7 r) (eqb r 0) (bit 7 o) c)) ⌝ }
+{
+    ByteResult {
+        value: r,
+        flags: with_low_bits(f, (r as u16) / 128, r == 0, o / 128, c),
+    }
+}
+
 // ADD, ADC, ABA. H and C are read off the sums of the low half-bytes and of the bytes.
 pub fn add8(x: u8, m: u8, carry: bool, f: u8) -> ByteResult
     ensures { λ r. ⌜ r ≡ packed8 (add8Of x m carry (flagsOf f)) ⌝ }
@@ -30,11 +40,7 @@ pub fn add8(x: u8, m: u8, carry: bool, f: u8) -> ByteResult
     let sum = (x as u16) + (m as u16) + (k as u16);
     let r = (sum % 256) as u8;
     let g = with_h(f, 15 < half);
-    let o = overflow(x as u16, m as u16, r as u16);
-    ByteResult {
-        value: r,
-        flags: with_low_bits(g, (r as u16) / 128, r == 0, o / 128, 255 < sum),
-    }
+    coded_by_overflow(r, overflow(x as u16, m as u16, r as u16), 255 < sum, g)
 }
 
 // The byte r with N and Z of it, and V and C as given.
@@ -54,11 +60,7 @@ pub fn sub8(x: u8, m: u8, borrow: bool, f: u8) -> ByteResult
     let from = x as u16;
     let less = (m as u16) + (one(borrow) as u16);
     let r = ((from + 256 - less) % 256) as u8;
-    let o = overflow(m as u16, r as u16, from);
-    ByteResult {
-        value: r,
-        flags: with_low_bits(f, (r as u16) / 128, r == 0, o / 128, from < less),
-    }
+    coded_by_overflow(r, overflow(m as u16, r as u16, from), from < less, f)
 }
 
 // Loads, stores, transfers and the logical operations.

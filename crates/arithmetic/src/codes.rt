@@ -26,7 +26,7 @@ pub fn with_nzv(f: u8, n: bool, z: bool, v: bool) -> u8
     with_nzvc(f, n, z, v, f % 2 == 1)
 }
 
-// Only H changes: S and X lie above it.
+// Only H changes: S and X lie above it, the others below.
 pub fn with_h(f: u8, h: bool) -> u8
     ensures { λ r. ⌜ r ≡ (let g = flagsOf f in byteOf (withHnzvc g h (g .n) (g .z) (g .v) (g .c))) ⌝ }
 {
@@ -58,7 +58,7 @@ pub fn with_zvc(f: u8, z: bool, v: bool, c: bool) -> u8
 }
 
 // V of the sum r of x and m, at every bit: a byte's is bit 7 and a word's bit 15. It is set where r differs from both.
-// Where r is the difference of x and m, x is the sum of m and r.
+// V of the difference r of x and m is `overflow(m, r, x)`: x is the sum of m and r.
 pub fn overflow(x: u16, m: u16, r: u16) -> u16
     ensures { λ o. ⌜ ((k : ℕ) → bit k o ≡ overflowSum k x m r) ⌝ }
 {

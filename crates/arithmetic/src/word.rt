@@ -1,9 +1,6 @@
 // The operations on words, with their condition codes.
 ghost use mathlib.Core.Path.{_≡_};
-ghost use lib.Dec.{eqb};
-ghost use Rattle.registers.specs.Flags.{bit, flagsOf, byteOf};
-ghost use Rattle.arithmetic.specs.Codes.{withNzvc};
-ghost use Rattle.arithmetic.specs.Result.{result};
+ghost use Rattle.registers.specs.Flags.{flagsOf, byteOf};
 ghost use Rattle.arithmetic.specs.inner.Packed.{packed16};
 ghost use Rattle.arithmetic.specs.Word.{add16Of, sub16Of, logic16Of, shifted16, asldOf, lsrdOf, mulOf};
 use crate::codes::overflow;
@@ -16,16 +13,6 @@ use registers::word::wrapping_sub;
 pub struct WordResult {
     pub value: u16,
     pub flags: u8,
-}
-
-// The word r with N and Z of it, and V and C as given.
-fn coded(r: u16, v: bool, c: bool, f: u8) -> WordResult
-    ensures { λ w. ⌜ w ≡ packed16 (result r (withNzvc (flagsOf f) (bit 15 r) (eqb r 0) v c)) ⌝ }
-{
-    WordResult {
-        value: r,
-        flags: with_nzvc(f, r / 32768 % 2 == 1, r == 0, v, c),
-    }
 }
 
 // ADDD. C is read off the sum.
@@ -64,7 +51,11 @@ pub fn logic16(r: u16, f: u8) -> u8
 fn shifted(r: u16, c: bool, f: u8) -> WordResult
     ensures { λ w. ⌜ w ≡ packed16 (shifted16 r c (flagsOf f)) ⌝ }
 {
-    coded(r, (r / 32768 % 2 == 1) ^ c, c, f)
+    let n = r / 32768 % 2 == 1;
+    WordResult {
+        value: r,
+        flags: with_nzvc(f, n, r == 0, n ^ c, c),
+    }
 }
 
 pub fn asld(d: u16, f: u8) -> WordResult

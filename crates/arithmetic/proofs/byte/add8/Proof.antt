@@ -22,7 +22,7 @@ returns c =
     let half = a .x % 16 + a .m % 16 + one (a .carry) in
     let r = sum % 256 in
     simp (
-      c .with-low-bits .ensures,
+      c .coded-by-overflow .ensures,
       c .before .overflow .ensures 7,
       c .before .before .with-h .ensures,
       c .before .before .before .one .ensures .0,
@@ -36,5 +36,5 @@ add8-spec =
     tie.close
     (tie.spec
     (search needs) (search needs) (search needs) (search needs) (search needs) (search needs) (search needs)
-    (search needs) (search needs) (search needs) (search needs) (search needs)
+    (search needs) (search needs) (search needs) (search needs)
     returns)

@@ -18,7 +18,7 @@ returns c =
     let less = a .m + one (a .borrow) in
     let r = (a .x + 256 - less) % 256 in
     simp (
-      c .with-low-bits .ensures,
+      c .coded-by-overflow .ensures,
       c .before .overflow .ensures 7,
       c .before .before .one .ensures .0,
       overflow-difference 7 (a .x) (a .m) r,
@@ -30,5 +30,5 @@ sub8-spec =
     tie.close
     (tie.spec
     (search needs) (search needs) (search needs) (search needs) (search needs) (search needs) (search needs)
-    (search needs) (search needs) (search needs)
+    (search needs) (search needs)
     returns)

@@ -1,4 +1,5 @@
--- `unary` meets its contract: in each arm what was called ensures `unaryOf` at that case.
+-- `unary` meets its contract: in each arm what was called ensures `unaryOf` at that case; of NEG it ensures a
+-- difference from 0, which is the same by `neg-difference`.
 -- Assumes nothing.
 use borrow.Author.Needs.{needs}
 use native.Mathlib.Omega.{arith}

@@ -1,4 +1,4 @@
--- `add16` meets its contract: C is the carry of the sum.
+-- `add16` meets its contract: C is the carry of the sum, and V is bit 15 of what `overflow` answers.
 -- Assumes nothing.
 use borrow.Author.Needs.{needs}
 use mathlib.Core.Bool.{false}
