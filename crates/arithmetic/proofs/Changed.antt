@@ -7,7 +7,7 @@ use native.Mathlib.Omega.{arith}
 use Rattle.registers.proofs.Bits.{digit}
 use Rattle.registers.proofs.FlagsByte.{of-byte, to-byte}
 use Rattle.registers.specs.declared.flags.Flags.{Flags}
-use Rattle.registers.specs.Flags.{bit, flagsOf, byteOf}
+use Rattle.registers.specs.Flags.{flagsOf, byteOf}
 use Rattle.lists.specs.Bit.{one}
 use Rattle.arithmetic.specs.Codes.{withNzvc, withHnzvc}
 
@@ -31,7 +31,7 @@ module _ (f : ℕ) (l : f < 256) where
   pub h-byte : (h : Bool) → byteOf (withH (flagsOf f) h) ≡ f / 64 * 64 + 32 * one h + f % 32
   h-byte h = omega (arith, to-byte f l, digit (f / 32 % 2) (omega arith))
 
--- N, Z, V and C changed in the byte where H was: all five changed
+-- H changed in the byte, and then N, Z, V and C, is all five changed
 pub after-h : (f : Flags) (h n z v c : Bool) → byteOf (withNzvc (flagsOf (byteOf (withH f h))) n z v c)
     ≡ byteOf (withHnzvc f h n z v c)
 after-h f h n z v c = ap (λ (g : Flags). byteOf (withNzvc g n z v c)) (of-byte (withH f h))
