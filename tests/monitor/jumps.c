@@ -2,8 +2,8 @@
  * While a sum or a difference is executed, no conditional jump of the host depends on its condition codes, V among
  * them. To be run under valgrind: what an instruction computes with is marked as undefined, and valgrind counts each
  * conditional jump, and each address, that depends on it. Of each instruction: a run over it counts none, so at these
- * addresses the way taken is that of all operands; V, which was defined, is then undefined, as it is not where a jump
- * decides it; and a run over BVS, with V alone undefined, counts its jump, so valgrind does look. An index stays
+ * addresses the way taken is that of all operands; V, which was defined, is then undefined: what was marked reached the
+ * byte of flags; and a run over BVS, with V alone undefined, counts its jump, so valgrind does look. An index stays
  * defined, as an address that depends on it is counted: of CPX IND,X and CPY IND,Y the word in memory alone is marked.
  * Prints a line for each difference, and last the count of instructions; the exit status tells.
  */
