@@ -1,5 +1,5 @@
 /* Executes NUMBER instructions by the stepper's step and by the hand-written interpreter, and compares cycles,
-   registers with all flags, and memory after each one. */
+   registers with all flags and the lowest SP, and memory after each one. */
 #include "jugrond.h"
 #include "state.h"
 #include "switch.h"

@@ -1,5 +1,6 @@
 /* GNU's simulator: NUMBER instructions, each by the function that GNU's own run calls for a step (interrupts looked at,
-   then the interpreter); what GNU's run does besides for its event queue after each step is left out. */
+   then the interpreter); what GNU's run does besides for its event queue after each step is left out. The lowest SP
+   stays as it is at the start: GNU's simulator has none. */
 #include "gnu_open.h"
 #include "state.h"
 

@@ -5,7 +5,8 @@
 
 enum { CODE = 0x8000 };
 
-static const uint8_t START[11] = {0x12, 0x34, 0x20, 0x00, 0x23, 0x00, 0x01, 0xFF, CODE >> 8, CODE & 0xFF, 0xD0};
+static const uint8_t START[13] = {0x12, 0x34,      0x20,        0x00, 0x23, 0x00, 0x01,
+                                  0xFF, CODE >> 8, CODE & 0xFF, 0xD0, 0x01, 0xFF};
 
 static FILE *open_or_exit(const char *name, const char *mode)
 {
@@ -40,7 +41,7 @@ void state_save(const struct state *s, char **words)
     const uint8_t cycles[4] = {(uint8_t)(s->cycles >> 24), (uint8_t)(s->cycles >> 16), (uint8_t)(s->cycles >> 8),
                                (uint8_t)s->cycles};
     FILE *f = open_or_exit(words[3], "wb");
-    if (fwrite(s->registers, 1, 11, f) != 11 || fwrite(cycles, 1, 4, f) != 4 ||
+    if (fwrite(s->registers, 1, 13, f) != 13 || fwrite(cycles, 1, 4, f) != 4 ||
         fwrite(s->memory, 1, 65536, f) != 65536 || fclose(f) != 0) {
         perror(words[3]);
         exit(2);

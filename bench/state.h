@@ -1,12 +1,12 @@
 /* What the measured programs share: PROGRAM MIX NUMBER OUT starts from one state with the routine MIX at $8000 in an
-   empty memory, and writes the state reached to OUT: registers (11 bytes), cycles (4 bytes, high byte first),
+   empty memory, and writes the state reached to OUT: registers (13 bytes), cycles (4 bytes, high byte first),
    memory. */
 #ifndef STATE_H
 #define STATE_H
 #include <stdint.h>
 
 struct state {
-    uint8_t registers[11]; /* A, B, X, Y, SP, PC, flags, high byte first */
+    uint8_t registers[13]; /* A, B, X, Y, SP, PC, flags, the lowest SP, high byte first */
     uint8_t memory[65536];
     uint32_t cycles;
 };

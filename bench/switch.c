@@ -1,12 +1,12 @@
 /* A hand-written interpreter for the instructions of the mixes: a plain switch over the opcode, and one after the
    prefix $18. All flags are computed at once, by the usual idioms: carry from the wider sum, half carry and overflow
-   from exclusive ors. Any other opcode is refused. */
+   from exclusive ors. Any other opcode is refused. The lowest SP is kept as the stepper keeps it. */
 #include "switch.h"
 
 enum { C = 1, V = 2, Z = 4, N = 8, H = 32 };
 
 struct cpu {
-    uint16_t x, y, sp, pc;
+    uint16_t x, y, sp, pc, lowest;
     uint8_t a, b, flags;
 };
 
@@ -157,15 +157,15 @@ static inline void branch(struct cpu *r, uint8_t distance, int taken)
         r->pc = (uint16_t)(r->pc + (int8_t)distance);
 }
 
-static struct cpu unpack(const uint8_t regs[11])
+static struct cpu unpack(const uint8_t regs[13])
 {
     return (struct cpu){
         .a = regs[0], .b = regs[1], .x = word_at(regs, 2), .y = word_at(regs, 4),
-        .sp = word_at(regs, 6), .pc = word_at(regs, 8), .flags = regs[10],
+        .sp = word_at(regs, 6), .pc = word_at(regs, 8), .flags = regs[10], .lowest = word_at(regs, 11),
     };
 }
 
-static void pack(uint8_t regs[11], const struct cpu *r)
+static void pack(uint8_t regs[13], const struct cpu *r)
 {
     regs[0] = r->a;
     regs[1] = r->b;
@@ -174,6 +174,7 @@ static void pack(uint8_t regs[11], const struct cpu *r)
     put_word(regs, 6, r->sp);
     put_word(regs, 8, r->pc);
     regs[10] = r->flags;
+    put_word(regs, 11, r->lowest);
 }
 
 /* Operands: the bytes after the opcode, and what they name. */
@@ -185,7 +186,7 @@ static void pack(uint8_t regs[11], const struct cpu *r)
 #define INDEXED_Y mem[(uint16_t)(r.y + OPERAND(2))]
 #define NEXT(n) r.pc = (uint16_t)(pc + (n))
 
-int switch_run(uint8_t regs[11], uint8_t mem[65536], uint32_t budget, uint32_t *cycles)
+int switch_run(uint8_t regs[13], uint8_t mem[65536], uint32_t budget, uint32_t *cycles)
 {
     struct cpu r = unpack(regs);
     uint32_t left = budget;
@@ -273,6 +274,8 @@ int switch_run(uint8_t regs[11], uint8_t mem[65536], uint32_t budget, uint32_t *
             }
             break;
         }
+        if (r.sp < r.lowest)
+            r.lowest = r.sp;
     }
     pack(regs, &r);
     *cycles = budget - left;

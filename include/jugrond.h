@@ -2,7 +2,7 @@
  * The 68HC11 stepper, the verdict on a routine and its start, for the press monitor. tools/install puts this header,
  * the library and a file for pkg-config where they are wanted; link with `pkg-config --libs jugrond`.
  *
- * Registers are 11 bytes, words high byte first; the offsets are below. The flags are S X H I N Z V C from bit 7 to
+ * Registers are 13 bytes, words high byte first; the offsets are below. The flags are S X H I N Z V C from bit 7 to
  * bit 0. Memory is 65,536 bytes: the byte at address n has index n, and every address wraps.
  *
  * A buffer is lent as a pointer and its length in bytes. Where the length is 0 the pointer may be null, as that of an
@@ -29,13 +29,13 @@ extern "C" {
  * 10000 * major + 100 * minor + patch. docs/CHANGELOG.md says what each version changes. Major rises where a caller
  * has to change something, minor where something is added.
  */
-#define JUGROND_VERSION "1.2.1"
-#define JUGROND_VERSION_NUMBER 10201
+#define JUGROND_VERSION "2.0.0"
+#define JUGROND_VERSION_NUMBER 20000
 
-#define JUGROND_REGISTER_BYTES 11
+#define JUGROND_REGISTER_BYTES 13
 #define JUGROND_MEMORY_BYTES 65536
 
-/* Offsets in the register bytes. X, Y, SP and PC have two bytes. */
+/* Offsets in the register bytes. X, Y, SP, PC and the lowest SP have two bytes. */
 #define JUGROND_A 0
 #define JUGROND_B 1
 #define JUGROND_X 2
@@ -43,6 +43,7 @@ extern "C" {
 #define JUGROND_SP 6
 #define JUGROND_PC 8
 #define JUGROND_FLAGS 10
+#define JUGROND_LOWEST_SP 11 /* the smallest value that SP has had after any instruction; a start sets it to its SP */
 
 /*
  * A slot keeps the certificate of a routine that was judged: windows, entry and limit as the ticket has them, which a
@@ -109,7 +110,7 @@ extern "C" {
 #define JUGROND_STACK_TOO_SMALL 20 /* its need, and home's two bytes, are above the stack window's length */
 
 /* A step, a run, a start. */
-#define JUGROND_BAD_LENGTH 21     /* registers not 11 bytes, memory not 65,536 or a slot not 24; place 0 */
+#define JUGROND_BAD_LENGTH 21     /* registers not 13 bytes, memory not 65,536 or a slot not 24; place 0 */
 #define JUGROND_NO_INSTRUCTION 22 /* no such instruction; place PC */
 #define JUGROND_WAITS 23          /* WAI, STOP or TEST; place PC */
 
@@ -117,14 +118,15 @@ extern "C" {
 #define JUGROND_OUTPUT_TOO_SMALL 24 /* the place is the bytes needed */
 
 /*
- * Writes the reset value: all zero, flags $D0.
+ * Writes the reset value: all zero, flags $D0. A lowest SP of 0 stays 0 until a start, or the caller, sets it.
  * Outcomes: JUGROND_DONE; JUGROND_BAD_LENGTH, nothing changed.
  */
 uint32_t jugrond_reset(uint8_t *registers, size_t registers_length);
 
 /*
  * Executes the instruction at PC.
- * JUGROND_DONE: registers and memory are those after it, *cycles its cycles; *place is not written.
+ * JUGROND_DONE: registers and memory are those after it, *cycles its cycles; *place is not written. The lowest SP is
+ * the smaller of the one lent and SP after the instruction.
  * JUGROND_BAD_LENGTH, looked at first: *place is 0. JUGROND_NO_INSTRUCTION, JUGROND_WAITS: *place is PC. In these three
  * nothing else is written: *cycles, every register byte and every byte of memory stay.
  */
@@ -137,6 +139,7 @@ uint32_t jugrond_step(uint8_t *registers, size_t registers_length, uint8_t *memo
  * JUGROND_HOME, JUGROND_SPENT: registers and memory are those reached, *cycles the cycles spent; *place is not written.
  * JUGROND_NO_INSTRUCTION, JUGROND_WAITS: the same, and *place is PC, so that a refusal keeps what was done before it.
  * Where it is the first instruction, *cycles is 0 and registers and memory stay.
+ * In all four the lowest SP is the smallest of the one lent and SP after each instruction executed.
  * JUGROND_BAD_LENGTH, looked at first: *place is 0, nothing else is written.
  */
 uint32_t jugrond_run(uint8_t *registers, size_t registers_length, uint8_t *memory, size_t memory_length,
@@ -154,8 +157,8 @@ uint32_t jugrond_verdict(const uint8_t *ticket, size_t ticket_length, const uint
 
 /*
  * Judges a routine and, where it is accepted, starts it: the image goes to the code window, two zero bytes to the end
- * of the stack window, SP below them and PC to the entry. A, B, X, Y, flags and every other byte of memory stay as they
- * are lent. jugrond_run then brings it home, where its budget covers the certified cycles.
+ * of the stack window, SP below them, the lowest SP the same, and PC to the entry. A, B, X, Y, flags and every other
+ * byte of memory stay as they are lent. jugrond_run then brings it home, where its budget covers the certified cycles.
  * JUGROND_ACCEPTED: registers and memory are the start; *place is not written.
  * JUGROND_BAD_LENGTH, looked at first: *place is 0. 1 to 20 as jugrond_verdict: *place is the cause's place. In both
  * nothing else is written.
@@ -181,8 +184,8 @@ uint32_t jugrond_certify(const uint8_t *ticket, size_t ticket_length, const uint
  * From a slot that jugrond_certify filled for this image the routine comes home, as after jugrond_start. The image's
  * bytes are not looked at again: lend those that were judged.
  * Any 24 bytes are taken for a slot. Of others than jugrond_certify wrote nothing is promised but what is stored where:
- * the image, then home's two bytes, SP and PC, by the slot's numbers, addresses wrapping. A slot of zeros is refused
- * with JUGROND_BAD_IMAGE, but for an image of no bytes.
+ * the image, then home's two bytes, SP, the lowest SP and PC, by the slot's numbers, addresses wrapping. A slot of
+ * zeros is refused with JUGROND_BAD_IMAGE, but for an image of no bytes.
  */
 uint32_t jugrond_start_certified(const uint8_t *slot, size_t slot_length, const uint8_t *image, size_t image_length,
                                  uint8_t *registers, size_t registers_length, uint8_t *memory, size_t memory_length,

@@ -29,6 +29,7 @@ struct file {
 static struct file image, ticket;
 static uint8_t slot[JUGROND_SLOT_BYTES];     /* filled when the routine is accepted */
 static uint8_t memory[JUGROND_MEMORY_BYTES]; /* kept from tick to tick: the routine's data window with it */
+static uint16_t lowest = UINT16_MAX;         /* the lowest SP of all ticks, for the service page */
 
 static bool load(struct file *f, const char *name)
 {
@@ -80,10 +81,29 @@ static bool judge(void)
     return true;
 }
 
+/* The service page: how much of the stack window the ticks so far have used. */
+static void show_stack(void)
+{
+    uint32_t length = in_slot(JUGROND_SLOT_STACK_LENGTH, 2);
+    uint32_t last = in_slot(JUGROND_SLOT_STACK, 2) + length - 1; /* the window's last address */
+
+    printf("stack: lowest SP $%04" PRIX16 ", %" PRIu32 " bytes used, %" PRIu32 " certified, window of %" PRIu32 "\n",
+           lowest, last - lowest, in_slot(JUGROND_SLOT_STACK_BYTES, 2), length);
+}
+
 /* How a tick ended: home, spent or a refusal, as jugrond.h numbers them. */
 struct end {
     uint32_t outcome, cycles, place;
 };
+
+/* Each start sets the lowest SP anew, so the smallest of all ticks is kept here. */
+static void note_lowest(const uint8_t *registers)
+{
+    uint16_t sp = (uint16_t)(registers[JUGROND_LOWEST_SP] << 8 | registers[JUGROND_LOWEST_SP + 1]);
+
+    if (sp < lowest)
+        lowest = sp;
+}
 
 /* Starts the routine afresh and runs it with the tick's budget. What a call does not answer stays 0 here. */
 static struct end tick(uint8_t reading, uint32_t budget)
@@ -102,6 +122,7 @@ static struct end tick(uint8_t reading, uint32_t budget)
         return e;
     e.outcome = jugrond_run(registers, sizeof registers, memory, sizeof memory, budget, &e.cycles, &pc);
     e.place = pc;
+    note_lowest(registers);
     return e;
 }
 
@@ -153,5 +174,6 @@ int main(int argc, char **argv)
         }
         /* here the output is driven */
     }
+    show_stack();
     return status;
 }

@@ -9,6 +9,7 @@ struct registers {
     uint8_t a, b;
     uint16_t x, y, sp, pc;
     uint8_t flags;
+    uint16_t lowest; /* the smallest SP after any instruction */
 };
 
 /* Some bytes from an address on; the address wraps. */

@@ -1,7 +1,8 @@
 /*
  * Judges the example routines ramp and shared once, and starts and runs them on many inputs, each with the certified
- * cycles as its budget; compares what they leave with what their sources say that they compute. The dearest way must
- * take the cycles stored here. Prints the number of runs, or the first difference; the exit status tells.
+ * cycles as its budget; compares what they leave with what their sources say that they compute. Every way must have the
+ * lowest SP stored here, and the dearest take the cycles. Prints the number of runs, or the first difference; the exit
+ * status tells.
  */
 #include "jugrond.h"
 
@@ -47,10 +48,11 @@ static void judge(const char *image_name, const char *ticket_name)
 }
 
 /* Starts and runs as a tick does. Memory stays from run to run. */
-static void check(const char *name, uint16_t output, int wanted)
+static void check(const char *name, uint16_t output, int wanted, int lowest_wanted)
 {
     uint8_t registers[JUGROND_REGISTER_BYTES];
     uint32_t outcome, cycles = 0, refused_at;
+    int lowest;
     uint16_t place;
 
     if (jugrond_reset(registers, sizeof registers) != JUGROND_DONE ||
@@ -60,11 +62,12 @@ static void check(const char *name, uint16_t output, int wanted)
         exit(1);
     }
     outcome = jugrond_run(registers, sizeof registers, memory, sizeof memory, certified, &cycles, &place);
+    lowest = registers[JUGROND_LOWEST_SP] << 8 | registers[JUGROND_LOWEST_SP + 1];
     if (cycles > dearest)
         dearest = cycles;
-    if (outcome != JUGROND_HOME || memory[output] != wanted) {
-        printf("DIFFERENCE %s, run %d: outcome %" PRIu32 ", output %d instead of %d\n", name, runs, outcome,
-               memory[output], wanted);
+    if (outcome != JUGROND_HOME || memory[output] != wanted || lowest != lowest_wanted) {
+        printf("DIFFERENCE %s, run %d: outcome %" PRIu32 ", output %d instead of %d, lowest SP %d instead of %d\n",
+               name, runs, outcome, memory[output], wanted, lowest, lowest_wanted);
         exit(1);
     }
     runs++;
@@ -98,6 +101,7 @@ static int scaled(int reading)
     return least(reading + reading * 38 / 256, 255);
 }
 
+/* Both stack windows end at $01FF. ramp pushes nothing; shared uses all 6 bytes that are certified, on every way. */
 int main(void)
 {
     judge("examples/ramp/ramp.bin", "examples/ramp/ramp.tkt");
@@ -107,7 +111,7 @@ int main(void)
                 memory[0x40] = (uint8_t)measured;
                 memory[0x41] = (uint8_t)setpoint;
                 memory[0x42] = (uint8_t)drive;
-                check("ramp", 0x42, ramped(measured, setpoint, drive));
+                check("ramp", 0x42, ramped(measured, setpoint, drive), 0x01fd);
             }
     /* 2 below the certified cycles: after CLRA the drive is never clamped, but the rules ignore flags */
     check_dearest("ramp", 35);
@@ -117,7 +121,7 @@ int main(void)
         for (int right = 0; right < 256; right++) {
             memory[0x50] = (uint8_t)left;
             memory[0x51] = (uint8_t)right;
-            check("shared", 0x52, (scaled(left) + scaled(right)) / 2);
+            check("shared", 0x52, (scaled(left) + scaled(right)) / 2, 0x01f9);
         }
     check_dearest("shared", 99);
     printf("ok, %d runs\n", runs);

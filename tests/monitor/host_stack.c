@@ -142,7 +142,7 @@ static void set_place(uint32_t n)
     if (n >= 256)
         memory[at++] = prefixes[n / 256];
     memory[at] = (uint8_t)n;
-    memcpy(registers, "\x12\x34\x10\x00\x20\x00\x01\xf0\x80\x00\xd0", sizeof registers);
+    memcpy(registers, "\x12\x34\x10\x00\x20\x00\x01\xf0\x80\x00\xd0\x01\xf0", sizeof registers);
 }
 
 static void reset(void)

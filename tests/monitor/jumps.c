@@ -88,8 +88,8 @@ static bool v_is_undefined(void)
 /* Registers and memory before the instruction, which NOPs follow: all that it computes with is undefined but V. */
 static void make(const struct code *c)
 {
-    static const uint8_t start[JUGROND_REGISTER_BYTES] = {0x12, 0x34, FAR >> 8,  FAR & 0xFF,  FAR >> 8, FAR & 0xFF,
-                                                          0x01, 0xFF, CODE >> 8, CODE & 0xFF, 0xD0};
+    static const uint8_t start[JUGROND_REGISTER_BYTES] = {
+        0x12, 0x34, FAR >> 8, FAR & 0xFF, FAR >> 8, FAR & 0xFF, 0x01, 0xFF, CODE >> 8, CODE & 0xFF, 0xD0, 0x01, 0xFF};
 
     memset(memory, NOP, sizeof memory);
     memcpy(memory + CODE, c->bytes, c->length);

@@ -27,6 +27,7 @@ static void pack(uint8_t *bytes, const struct registers *r)
     put_word(bytes + JUGROND_SP, r->sp);
     put_word(bytes + JUGROND_PC, r->pc);
     bytes[JUGROND_FLAGS] = r->flags;
+    put_word(bytes + JUGROND_LOWEST_SP, r->lowest);
 }
 
 static void put_bytes(uint8_t *memory, const struct bytes *blocks, size_t count)
@@ -127,11 +128,11 @@ static void check_runs(size_t guard)
         check_call(&runs[i], true, guard);
 }
 
-/* Each register byte has its place: a NOP changes PC's low byte alone. */
+/* Each register byte has its place: a NOP changes PC's low byte alone, where the lowest SP is below SP. */
 static void check_layout(size_t guard)
 {
-    static const uint8_t before[] = {0x01, 0x02, 0x03, 0x04, 0x05, 0x06, 0x07, 0x08, 0x09, 0x0a, 0x0b};
-    static const uint8_t after[] = {0x01, 0x02, 0x03, 0x04, 0x05, 0x06, 0x07, 0x08, 0x09, 0x0b, 0x0b};
+    static const uint8_t before[] = {0x01, 0x02, 0x03, 0x04, 0x05, 0x06, 0x17, 0x08, 0x09, 0x0a, 0x0b, 0x0c, 0x0d};
+    static const uint8_t after[] = {0x01, 0x02, 0x03, 0x04, 0x05, 0x06, 0x17, 0x08, 0x09, 0x0b, 0x0b, 0x0c, 0x0d};
     static uint8_t memory[JUGROND_MEMORY_BYTES];
     struct lending l;
 
@@ -145,7 +146,7 @@ static void check_layout(size_t guard)
 
 static void check_reset(size_t guard)
 {
-    static const uint8_t wanted[] = {0, 0, 0, 0, 0, 0, 0, 0, 0, 0, 0xd0};
+    static const uint8_t wanted[] = {0, 0, 0, 0, 0, 0, 0, 0, 0, 0, 0xd0, 0, 0};
     struct lent registers = lend(NULL, JUGROND_REGISTER_BYTES, guard);
 
     expect_number("reset", "outcome", jugrond_reset(registers.bytes, registers.length), JUGROND_DONE);
@@ -153,10 +154,11 @@ static void check_reset(size_t guard)
     take_back(&registers);
 }
 
-/* PC is $0000 in what is lent, so that a run that looked for home first would say so. */
+/* PC is $0000 in what is lent, so that a run that looked for home first would say so; the lowest SP is above SP. */
 static void check_length(const char *name, size_t registers_length, size_t memory_length, size_t guard)
 {
-    static const uint8_t registers[12] = {0x01, 0x02, 0x03, 0x04, 0x05, 0x06, 0x07, 0x08, 0x00, 0x00, 0x0b, 0x0c};
+    static const uint8_t registers[14] = {0x01, 0x02, 0x03, 0x04, 0x05, 0x06, 0x07,
+                                          0x08, 0x00, 0x00, 0x0b, 0x0c, 0x0d, 0x0e};
     static uint8_t memory[JUGROND_MEMORY_BYTES + 1];
     struct lending l;
 
@@ -181,18 +183,25 @@ static void check_length(const char *name, size_t registers_length, size_t memor
 static void check_lengths(size_t guard)
 {
     check_length("registers 0", 0, 65536, guard);
-    check_length("registers 10", 10, 65536, guard);
+    check_length("registers 11, as without the lowest SP", 11, 65536, guard);
     check_length("registers 12", 12, 65536, guard);
-    check_length("memory 0", 11, 0, guard);
-    check_length("memory 65,535", 11, 65535, guard);
-    check_length("memory 65,537", 11, 65537, guard);
+    check_length("registers 14", 14, 65536, guard);
+    check_length("memory 0", 13, 0, guard);
+    check_length("memory 65,535", 13, 65535, guard);
+    check_length("memory 65,537", 13, 65537, guard);
     check_length("registers 0, memory 0", 0, 0, guard);
-    check_length("registers 12, memory 65,535", 12, 65535, guard);
+    check_length("registers 14, memory 65,535", 14, 65535, guard);
+}
+
+static uint16_t word_in(const uint8_t *bytes)
+{
+    return (uint16_t)(bytes[0] << 8 | bytes[1]);
 }
 
 /* Routine P by steps, each on the bytes that the one before left, does what the run does. */
 static void check_in_turn(size_t guard)
 {
+    static const uint16_t lowest[] = {0x01f1, 0x01ef, 0x01ef, 0x01ef, 0x01ef, 0x01ef}; /* SP, after each step */
     const struct call *p = &runs[0];
     static uint8_t memory[JUGROND_MEMORY_BYTES];
     uint8_t registers[JUGROND_REGISTER_BYTES];
@@ -208,8 +217,9 @@ static void check_in_turn(size_t guard)
         expect_number("P in turn", "outcome", call_step(&l), JUGROND_DONE);
         memcpy(&cycles, l.cycles.bytes, sizeof cycles);
         sum += cycles;
+        expect_number("P in turn", "lowest SP", word_in(l.registers.bytes + JUGROND_LOWEST_SP), lowest[done]);
         done++;
-    } while (done < 6 && (l.registers.bytes[JUGROND_PC] | l.registers.bytes[JUGROND_PC + 1]) != 0);
+    } while (done < 6 && word_in(l.registers.bytes + JUGROND_PC) != 0);
     expect_number("P in turn", "steps", (uint32_t)done, 6);
     expect_number("P in turn", "cycles", sum, p->cycles);
     put_bytes(memory, p->written, sizeof p->written / sizeof p->written[0]);

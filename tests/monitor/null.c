@@ -12,7 +12,7 @@
 #include <stdio.h>
 
 static uint8_t ticket[P_TICKET_BYTES + 1], image[P_IMAGE_BYTES + 1], memory[JUGROND_MEMORY_BYTES];
-static const uint8_t registers[JUGROND_REGISTER_BYTES] = {1, 2, 3, 4, 5, 6, 7, 8, 9, 10, 11};
+static const uint8_t registers[JUGROND_REGISTER_BYTES] = {1, 2, 3, 4, 5, 6, 7, 8, 9, 10, 11, 12, 13};
 static const uint8_t filled[JUGROND_SLOT_BYTES] = {9, 8, 7, 6, 5, 4, 3, 2, 1};
 
 static void make(void)
@@ -78,6 +78,7 @@ static const struct {
 static void check_starting(size_t guard)
 {
     static const uint8_t zeros[JUGROND_SLOT_BYTES];
+    static const uint8_t started[] = {1, 2, 3, 4, 5, 6, 0xff, 0xfd, 0, 0, 11, 0xff, 0xfd}; /* from a slot of zeros */
     struct lent t, i, m, r = lend(registers, sizeof registers, guard), place = lend(NULL, 4, guard);
     struct lent s = lend(filled, sizeof filled, guard), z = lend(zeros, sizeof zeros, guard);
     uint32_t *p = place_of(&place);
@@ -116,6 +117,7 @@ static void check_starting(size_t guard)
                                           place_of(&place)),
                   JUGROND_ACCEPTED);
     memory[JUGROND_MEMORY_BYTES - 2] = memory[JUGROND_MEMORY_BYTES - 1] = 0;
+    expect_bytes("starting", "registers after a slot of zeros", &r, started);
     expect_bytes("starting", "memory after a slot of zeros", &m, memory);
     expect_lent("starting", "place after a slot of zeros", &place, false, 0);
     take_back(&t);

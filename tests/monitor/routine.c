@@ -59,7 +59,9 @@ static void check_verdict(const struct routine *c, size_t guard)
     count();
 }
 
-static const uint8_t given[12] = {7, 8, 0x12, 0x34, 0x56, 0x78, 0x9a, 0xbc, 0xde, 0xf0, 0x31, 0x99};
+/* The lowest SP is below the SP of a start. */
+static const uint8_t given[JUGROND_REGISTER_BYTES + 1] = {7,    8,    0x12, 0x34, 0x56, 0x78, 0x9a,
+                                                          0xbc, 0xde, 0xf0, 0x31, 0x00, 0x99, 0x66};
 
 static uint8_t memory[JUGROND_MEMORY_BYTES + 1], wanted[JUGROND_MEMORY_BYTES + 1];
 
@@ -71,8 +73,8 @@ static void start_wanted(const struct routine *c, uint8_t *registers)
 
     memcpy(wanted + 0x8000, image, P_IMAGE_BYTES);
     wanted[top - 1] = wanted[top] = 0;
-    registers[JUGROND_SP] = (uint8_t)((top - 2) >> 8);
-    registers[JUGROND_SP + 1] = (uint8_t)(top - 2);
+    registers[JUGROND_SP] = registers[JUGROND_LOWEST_SP] = (uint8_t)((top - 2) >> 8);
+    registers[JUGROND_SP + 1] = registers[JUGROND_LOWEST_SP + 1] = (uint8_t)(top - 2);
     memcpy(registers + JUGROND_PC, c->slot + JUGROND_SLOT_ENTRY, 2);
 }
 
@@ -120,15 +122,16 @@ static void check_all(size_t guard)
         check_verdict(c, guard);
         check_start(c, JUGROND_REGISTER_BYTES, JUGROND_MEMORY_BYTES, guard);
         check_start(c, 0, JUGROND_MEMORY_BYTES, guard);
-        check_start(c, 10, JUGROND_MEMORY_BYTES, guard);
+        check_start(c, 11, JUGROND_MEMORY_BYTES, guard);
         check_start(c, 12, JUGROND_MEMORY_BYTES, guard);
+        check_start(c, 14, JUGROND_MEMORY_BYTES, guard);
         check_start(c, JUGROND_REGISTER_BYTES, 0, guard);
         check_start(c, JUGROND_REGISTER_BYTES, 65535, guard);
         check_start(c, JUGROND_REGISTER_BYTES, 65537, guard);
     }
 }
 
-/* Verdict, start and run of P in turn. */
+/* Verdict, start and run of P in turn. The lowest SP is that of the call within P, $01EF. */
 static void check_way(uint32_t budget, uint32_t outcome, uint32_t spent, const char *sp_pc)
 {
     static uint8_t used[JUGROND_MEMORY_BYTES];
@@ -142,6 +145,7 @@ static void check_way(uint32_t budget, uint32_t outcome, uint32_t spent, const c
     memcpy(registers, given, sizeof registers);
     memcpy(expected, given, sizeof expected);
     memcpy(expected + JUGROND_SP, sp_pc, 4);
+    memcpy(expected + JUGROND_LOWEST_SP, "\x01\xef", 2);
     expect_number("way", "verdict",
                   jugrond_verdict(ticket, P_TICKET_BYTES, image, P_IMAGE_BYTES, &entry, &cost, &stack, &place),
                   JUGROND_ACCEPTED);
@@ -157,6 +161,27 @@ static void check_way(uint32_t budget, uint32_t outcome, uint32_t spent, const c
     count();
 }
 
+/* P's stack window ends at $01F4: after a start SP and the lowest SP are $01F2, whatever was lent. */
+static void check_lowest(const char *before)
+{
+    static uint8_t used[JUGROND_MEMORY_BYTES];
+    uint8_t registers[JUGROND_REGISTER_BYTES];
+    uint32_t place = 0;
+
+    make_ticket(&routines[0], ticket);
+    make_image(&routines[0], image);
+    memcpy(registers, given, sizeof registers);
+    memcpy(registers + JUGROND_LOWEST_SP, before, 2);
+    expect_number("lowest SP", "start",
+                  jugrond_start(ticket, P_TICKET_BYTES, image, P_IMAGE_BYTES, registers, sizeof registers, used,
+                                sizeof used, &place),
+                  JUGROND_ACCEPTED);
+    expect_number("lowest SP", "SP is $01F2", memcmp(registers + JUGROND_SP, "\x01\xf2", 2) == 0, 1);
+    expect_number("lowest SP", "the lowest SP is $01F2",
+                  memcmp(registers + JUGROND_LOWEST_SP, "\x01\xf2", 2) == 0, 1);
+    count();
+}
+
 int main(void)
 {
     fill_background(memory, sizeof memory);
@@ -164,6 +189,10 @@ int main(void)
     check_way(26, JUGROND_HOME, 26, "\x01\xf4\x00\x00");
     check_way(UINT32_MAX, JUGROND_HOME, 26, "\x01\xf4\x00\x00");
     check_way(25, JUGROND_SPENT, 21, "\x01\xf2\x80\x05");
+    check_lowest("\x00\x00");
+    check_lowest("\x01\xf1");
+    check_lowest("\x01\xf3");
+    check_lowest("\xff\xff");
     printf("%d passed, %d failed\n", passed, failed);
     return failed == 0 ? EXIT_SUCCESS : EXIT_FAILURE;
 }

@@ -81,8 +81,9 @@ struct start {
     size_t slot_length, image_length, registers_length, memory_length;
 };
 
-static const uint8_t given[JUGROND_REGISTER_BYTES + 1] = {7,    8,    0x12, 0x34, 0x56, 0x78,
-                                                          0x9a, 0xbc, 0xde, 0xf0, 0x31, 0x99};
+/* The lowest SP is above the SP of some starts, and below that of others. */
+static const uint8_t given[JUGROND_REGISTER_BYTES + 1] = {7,    8,    0x12, 0x34, 0x56, 0x78, 0x9a,
+                                                          0xbc, 0xde, 0xf0, 0x31, 0x80, 0x99, 0x66};
 
 static uint32_t start_outcome(const struct start *c)
 {
@@ -94,8 +95,8 @@ static uint32_t start_outcome(const struct start *c)
     return JUGROND_ACCEPTED;
 }
 
-/* The image to the code window, then two zero bytes to the end of the stack window, SP below them, PC to the entry;
- * addresses wrap. */
+/* The image to the code window, then two zero bytes to the end of the stack window, SP and the lowest SP below them, PC
+ * to the entry; addresses wrap. */
 static void start_wanted(const uint8_t *slot, size_t image_length, uint8_t *registers, uint8_t *memory)
 {
     uint32_t code = slot_number(slot, JUGROND_SLOT_CODE, 2);
@@ -107,6 +108,7 @@ static void start_wanted(const uint8_t *slot, size_t image_length, uint8_t *regi
     memory[(past - 1) % JUGROND_MEMORY_BYTES] = 0;
     memory[(past - 2) % JUGROND_MEMORY_BYTES] = 0;
     put_word(registers + JUGROND_SP, (uint16_t)(past - 3));
+    put_word(registers + JUGROND_LOWEST_SP, (uint16_t)(past - 3));
     put_word(registers + JUGROND_PC, (uint16_t)slot_number(slot, JUGROND_SLOT_ENTRY, 2));
 }
 
@@ -143,14 +145,14 @@ static void check_start(const char *name, const struct start *c, size_t guard)
  * first. */
 static void check_lengths(size_t guard)
 {
-    static const size_t slots[] = {24, 0, 23, 25}, registers[] = {11, 0, 10, 12}, memories[] = {65536, 0, 65535, 65537},
-                        images[] = {11, 0, 10, 12};
+    static const size_t slots[] = {24, 0, 23, 25}, registers[] = {13, 0, 11, 12, 14},
+                        memories[] = {65536, 0, 65535, 65537}, images[] = {11, 0, 10, 12};
     uint8_t slot[JUGROND_SLOT_BYTES + 1] = {0};
 
     memcpy(slot, routines[0].slot, JUGROND_SLOT_BYTES);
     make_image(&routines[0], image);
     for (size_t s = 0; s < 4; s++)
-        for (size_t r = 0; r < 4; r++)
+        for (size_t r = 0; r < 5; r++)
             for (size_t m = 0; m < 4; m++)
                 for (size_t i = 0; i < 4; i++) {
                     struct start c = {slot, slots[s], images[i], registers[r], memories[m]};

@@ -5,6 +5,9 @@ A field's expected value is what both answer, or what one answers where the othe
 manual's where both are. Any other disagreement is an error that is shown. Each vector's first number says which
 simulators gave its whole expected answer: 1 GNU, 2 MAME, 3 both, 0 none (the fields come from different sources). The
 vector's format is in docs/SIMULATORS.md.
+
+No simulator has the lowest SP. The one handed in is chosen here (handed_in), and the one expected is the smaller of it
+and the expected SP, by document 02's rule in b.
 """
 import sys
 from collections import Counter, defaultdict
@@ -31,7 +34,7 @@ def registers(text):
 
 def register_text(fields):
     flags = sum(fields[name] << (7 - i) for i, name in enumerate(FLAGS))
-    return "%02X%02X%04X%04X%04X%04X%02X" % (*(fields[r] for r in ("A", "B", *WORDS)), flags)
+    return "%02X%02X%04X%04X%04X%04X%02X%04X" % (*(fields[r] for r in ("A", "B", *WORDS)), flags, fields["lowest"])
 
 
 def cells(words):
@@ -63,6 +66,14 @@ def left_out(simulator, place, before, after, memory):
     """The fields of an answer that are not used, each with the fault that says why."""
     faults = [f for f in FAULTS if f.simulator == simulator and place in f.places and f.says(before, after, memory)]
     return {field: fault for fault in faults for field in fault.fields}
+
+
+def handed_in(turn, before, after):
+    """The lowest SP handed to the state of a turn, the number of states before it at its place: the ends, X for any
+    value, and around SP before and SP afterwards. They are nine, since states.py tries SP's edges by powers of two."""
+    around = [fields["SP"] + k for fields in (before, after) for k in (-1, 0, 1)]
+    values = [0x0000, 0xFFFF, before["IX"], *around]
+    return values[turn % len(values)] & 0xFFFF
 
 
 class Disagreement(Exception):
@@ -122,9 +133,11 @@ class Merger:
         except Disagreement as e:
             raise SystemExit(f"{e}\n  state {state}" + "".join(f"  {s:5} {line}" for s, line in lines.items()))
         number = self.count(expected, answers, unused)
+        before["lowest"] = handed_in(len(self.by_place[place]), before, expected)
+        expected["lowest"] = min(before["lowest"], expected["SP"])
         self.by_place[place].append((before, expected))
         writes = expected["writes"]
-        return (f"{number:02X} {expected['cycles']:02X} {words[1]} {register_text(expected)} "
+        return (f"{number:02X} {expected['cycles']:02X} {register_text(before)} {register_text(expected)} "
                 f"{len(listed):02X}{cell_text(listed)} {len(writes):02X}{cell_text(writes)}\n")
 
 
@@ -143,6 +156,19 @@ def check_cover(by_place):
             assert min(ways[True], ways[False]) >= 20, f"{place:03X}: {ways}"
 
 
+def check_lowest(by_place):
+    """That the lowest SP handed in is above, equal to and below SP afterwards at every place; and that, where SP rises,
+    it is often above SP before, so that a rule that looks at SP before is seen."""
+    seen = 0
+    for place, states in by_place.items():
+        sides = Counter((b["lowest"] > e["SP"]) - (b["lowest"] < e["SP"]) for b, e in states)
+        assert min(sides[side] for side in (1, 0, -1)) >= 10, f"{place:03X}: {sides}"
+        rising = [b["lowest"] > b["SP"] for b, e in states if b["SP"] < e["SP"]]
+        assert 3 * sum(rising) >= len(rising), f"{place:03X}: {sum(rising)} of {len(rising)}"
+        seen += sum(rising)
+    assert seen >= 500, seen
+
+
 def check_faults(wrong):
     """That every fault of the list was met."""
     missing = [f.name for f in FAULTS if not wrong[f.simulator, f.name]]
@@ -155,6 +181,7 @@ def main():
     with open(states) as s, open(gnu) as g, open(mame) as m:
         lines = [merger.vector(state, {"GNU": a, "MAME": b}) for state, a, b in zip(s, g, m, strict=True)]
     check_cover(merger.by_place)
+    check_lowest(merger.by_place)
     check_faults(merger.wrong)
     with open(vectors, "w", newline="\n") as out:
         out.writelines(lines)

@@ -1,5 +1,5 @@
 // Document 01's cases 8 to 12, of which 8 and 10 begin with the flags set that they clear, and the two of routine P
-// that a run answers. Its lines under "Further, run" are all the verdict's.
+// that a run answers; its lines under "Further, run" are all the verdict's. Then document 02's lowest SP.
 use crate::print::ran;
 use crate::print::stepped;
 use output::text;
@@ -29,13 +29,22 @@ fn start(flags: u8, a: u8, b: u8, x: u16) -> Registers {
     Registers::start(d, 0x8000, 0x01f4)
 }
 
-// One instruction of two bytes at most.
-fn one(name: &[u8], first: u8, second: u8, r: Registers) {
+// One instruction of three bytes at most.
+fn one(name: &[u8], first: u8, second: u8, third: u8, r: Registers) {
     let mut mem = [0u8; 65536];
     put(&mut mem, 0x8000, first);
     put(&mut mem, 0x8001, second);
+    put(&mut mem, 0x8002, third);
     text(name);
     stepped(step(r, &mut mem));
+}
+
+// With X $0080, and with this lowest SP handed in.
+fn handed(sp: u16, lowest: u16) -> Registers {
+    let mut r = start(0xd0, 0, 0, 0x80);
+    r.sp = sp;
+    r.lowest = lowest;
+    r
 }
 
 // Bytes go to the addresses from `at` on.
@@ -60,9 +69,41 @@ fn routine_p(name: &[u8], budget: u32) {
 pub fn cases() {
     routine_p(b"2  P, budget 26: ", 26);
     routine_p(b"3  P, budget 25: ", 25);
-    one(b"8  ABA: ", 0x1b, 0, start(0xd5, 0x7f, 0x01, 0));
-    one(b"9  ABX: ", 0x3a, 0, start(0xd0, 0, 2, 0xffff));
-    one(b"10 ASLA: ", 0x48, 0, start(0xd8, 0x80, 0, 0));
-    one(b"11 IDIV: ", 0x02, 0, start(0xd0, 0, 7, 2));
-    one(b"12 BSR: ", 0x8d, 0xfe, start(0xd0, 0, 0, 0));
+    one(b"8  ABA: ", 0x1b, 0, 0, start(0xd5, 0x7f, 0x01, 0));
+    one(b"9  ABX: ", 0x3a, 0, 0, start(0xd0, 0, 2, 0xffff));
+    one(b"10 ASLA: ", 0x48, 0, 0, start(0xd8, 0x80, 0, 0));
+    one(b"11 IDIV: ", 0x02, 0, 0, start(0xd0, 0, 7, 2));
+    one(b"12 BSR: ", 0x8d, 0xfe, 0, start(0xd0, 0, 0, 0));
+}
+
+// A refused step is shown by a run, whose answer holds the registers.
+pub fn lowest() {
+    one(
+        b"INS, handed in above SP: ",
+        0x31,
+        0,
+        0,
+        handed(0x01f0, 0xffff),
+    );
+    one(b"DES from SP 0: ", 0x34, 0, 0, handed(0, 5));
+    one(b"DES, 0 handed in: ", 0x34, 0, 0, handed(0x01f2, 0));
+    one(b"TXS: ", 0x35, 0, 0, handed(0x01f2, 0x01f2));
+    one(
+        b"LDS #$0100 from $01F2: ",
+        0x8e,
+        0x01,
+        0,
+        handed(0x01f2, 0x01f2),
+    );
+    one(
+        b"LDS #$0100 from $007F: ",
+        0x8e,
+        0x01,
+        0,
+        handed(0x7f, 0x7f),
+    );
+    let mut mem = [0u8; 65536];
+    put(&mut mem, 0x8000, 0x41);
+    text(b"$41, handed in above SP: ");
+    ran(run(handed(0x01f0, 0xffff), &mut mem, 100));
 }

@@ -1,10 +1,11 @@
-// The stepper's demonstration: document 01's cases that a stepper answers, and bad input, each with what is answered.
+// The stepper's demonstration: the documents' cases that a stepper answers, and bad input, each with what is answered.
 mod print; // answers as text
-mod documented; // document 01's cases
+mod documented; // the documents' cases
 mod bad; // memories of other lengths, empty places, and instructions that wrap
 
 fn main() {
     documented::cases();
+    documented::lowest();
     bad::lengths();
     bad::places();
     bad::wraps();

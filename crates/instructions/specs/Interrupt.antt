@@ -5,6 +5,7 @@ use Prim.Native.Nat.{ℕ}
 use mathlib.Core.Bool.{true}
 use mathlib.Core.List.{List, [], _∷_, _++_}
 use Rattle.registers.specs.Word.{wrappingAdd, wrappingSub}
+use Rattle.registers.specs.Registers.{dataOf, withFlags, withData, withPcSp}
 use Rattle.registers.specs.declared.Registers.{Registers}
 use Rattle.memory.specs.Memory.{byteAt, wordAt, Store, store, pushStores, applied}
 use Rattle.instructions.specs.Inherent.{withI, replaced}
@@ -18,24 +19,20 @@ stackedOf r =
 -- the vector is read after the stores. The flags that are stacked are those before I is set
 unfoldable pub interruptedOf : Registers → List ℕ → Registers
 interruptedOf r m =
-    record {
-      x = r .x;
-      y = r .y;
-      sp = wrappingSub (r .sp) 9;
-      pc = wordAt (applied (stackedOf r) m) 0xfff6;
-      a = r .a;
-      b = r .b;
-      flags = withI (r .flags) true;
-    }
+    withPcSp (withData r (withFlags (dataOf r) (withI (r .flags) true))) (wordAt (applied (stackedOf r) m) 0xfff6)
+    (wrappingSub (r .sp) 9)
 
 unfoldable pub resumedOf : Registers → List ℕ → Registers
 resumedOf r m =
-    record {
+    withPcSp
+    (withData
+    r
+    (record {
       x = wordAt m (wrappingAdd (r .sp) 4);
       y = wordAt m (wrappingAdd (r .sp) 6);
-      sp = wrappingAdd (r .sp) 9;
-      pc = wordAt m (wrappingAdd (r .sp) 8);
       a = byteAt m (wrappingAdd (r .sp) 3);
       b = byteAt m (wrappingAdd (r .sp) 2);
       flags = replaced (byteAt m (wrappingAdd (r .sp) 1)) (r .flags);
-    }
+    }))
+    (wordAt m (wrappingAdd (r .sp) 8))
+    (wrappingAdd (r .sp) 9)

@@ -6,6 +6,7 @@ use mathlib.Core.Bool.{Bool, true, false, cond}
 use mathlib.Core.List.{List}
 use lib.Dec.{eqb, ltb}
 use Rattle.registers.specs.Word.{wrappingSub}
+use Rattle.registers.specs.Registers.{withLowest}
 use Rattle.registers.specs.declared.Registers.{Registers}
 use Rattle.stepper.specs.Answer.{Answer, done, refused}
 use Rattle.stepper.specs.Step.{stepOf}
@@ -13,15 +14,12 @@ use Rattle.commands.specs.declared.command.Claim.{Claim}
 use Rattle.stepper.specs.Flow.{Flow, calls, returns, plain, flowOf}
 use Rattle.measure.specs.declared.look.Look.{Look}
 
+-- the lowest SP begins with SP
 abbrev pub beginOf : Registers → ℕ → Look
-beginOf r b = record { regs = r; lowest = r .sp; pending = 0; left = b; over = false }
+beginOf r b = record { regs = withLowest r (r .sp); pending = 0; left = b; over = false }
 
 abbrev pub overOf : Look → Look
-overOf l = record { regs = l .regs; lowest = l .lowest; pending = l .pending; left = l .left; over = true }
-
--- the lower of two addresses
-abbrev pub lowerOf : ℕ → ℕ → ℕ
-lowerOf a b = cond (ltb a b) a b
+overOf l = record { regs = l .regs; pending = l .pending; left = l .left; over = true }
 
 -- the calls that have not returned after an instruction of a flow
 abbrev pub pendingAfter : Flow → ℕ → ℕ
@@ -40,7 +38,6 @@ abbrev pub onOf : Flow → Look → Registers → ℕ → Look
 onOf d l q k =
     record {
       regs = q;
-      lowest = lowerOf (l .lowest) (q .sp);
       pending = pendingAfter d (l .pending);
       left = l .left - k;
       over = ownReturn d (l .pending);
@@ -80,5 +77,5 @@ measuredOf r m b =
       depth = record
           { 0 = wrappingSub (wrappingSub (l .regs .sp) 2) (r .sp) };
       need =
-          record { 0 = wrappingSub (r .sp) (l .lowest) };
+          record { 0 = wrappingSub (r .sp) (l .regs .lowest) };
     }

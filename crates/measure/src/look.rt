@@ -2,7 +2,7 @@
 ghost use mathlib.Core.Path.{_≡_};
 ghost use Prim.Native.Nat.{_+_, _≤_, _<_};
 ghost use lib.ListN.{length};
-ghost use Rattle.measure.specs.Look.{beginOf, overOf, lowerOf, pendingAfter, ownReturn, lookAfter, lookStep};
+ghost use Rattle.measure.specs.Look.{beginOf, overOf, pendingAfter, ownReturn, lookAfter, lookStep};
 ghost use Rattle.measure.specs.Look.{lookStepOf, lookOf, measuredOf};
 ghost use Rattle.measure.specs.inner.Said.{flowSaid};
 ghost use Rattle.stepper.specs.Answer.{done};
@@ -16,22 +16,20 @@ use registers::word::wrapping_sub;
 use stepper::answer::Stepped;
 use stepper::step;
 
-// The registers reached, the lowest SP so far, how many calls have not returned, what is left of the budget, and
-// whether the look has ended.
+// The registers reached, how many calls have not returned, what is left of the budget, and whether the look has ended.
 pub struct Look {
     pub regs: Registers,
-    pub lowest: u16,
     pub pending: u32,
     pub left: u32,
     pub over: bool,
 }
 
+// The lowest SP begins with SP.
 fn begin(r: Registers, budget: u32) -> Look
     ensures { λ l. ⌜ l ≡ beginOf r budget ⌝ }
 {
     Look {
-        regs: r,
-        lowest: r.sp,
+        regs: r.with_lowest(r.sp),
         pending: 0,
         left: budget,
         over: false,
@@ -44,17 +42,10 @@ fn over(l: Look) -> Look
     let regs = l.regs;
     Look {
         regs,
-        lowest: l.lowest,
         pending: l.pending,
         left: l.left,
         over: true,
     }
-}
-
-fn lower(a: u16, b: u16) -> u16
-    ensures { λ r. ⌜ r ≡ lowerOf a b ⌝ }
-{
-    if a < b { a } else { b }
 }
 
 fn pending_after(d: Flow, n: u32) -> u32
@@ -89,7 +80,6 @@ fn look_after(d: Flow, l: Look, q: Registers, k: Cycles) -> Look
     }
     Look {
         regs: q,
-        lowest: lower(l.lowest, q.sp),
         pending: pending_after(d, l.pending),
         left: l.left - k.0,
         over: own_return(d, l.pending),
@@ -131,10 +121,10 @@ pub fn measure(r: Registers, mem: [u8; 65536], budget: u32) -> Claim
     ensures { λ c. ⌜ c ≡ measuredOf r mem budget ⌝ }
 {
     let l = look_ahead(r, mem, budget);
-    let end = l.regs.sp;
+    let end = l.regs;
     Claim {
         cost: Cycles(budget - l.left),
-        depth: StackBytes(wrapping_sub(wrapping_sub(end, 2), r.sp)),
-        need: StackBytes(wrapping_sub(r.sp, l.lowest)),
+        depth: StackBytes(wrapping_sub(wrapping_sub(end.sp, 2), r.sp)),
+        need: StackBytes(wrapping_sub(r.sp, end.lowest)),
     }
 }

@@ -1,5 +1,5 @@
--- On 11 register bytes a call says what the stepper says, of a memory of another length too: the monitor adds no rule
--- of its own.
+-- On as many register bytes as are asked for a call says what the stepper says, of a memory of another length too: the
+-- monitor adds no rule of its own.
 -- Assumes nothing.
 use mathlib.Core.Path.{_≡_, refl}
 use mathlib.Core.Bool.{Bool, true, false}
@@ -10,11 +10,11 @@ use lib.ListN.{length, getD}
 use borrow.Author.Tests.{eq-eqb}
 use Rattle.stepper.specs.Step.{didOf, stepOf}
 use Rattle.stepper.specs.Run.{runOf}
-use Rattle.monitor.specs.RegisterBytes.{unpacked}
+use Rattle.monitor.specs.RegisterBytes.{registerSize, unpacked}
 use Rattle.monitor.specs.StepperCalls.{StepperCall, stepperCall, ofStep, ofRun, stepBytesOf, runBytesOf}
 use Rattle.monitor.proofs.RegisterRoundTrip.{packed-unpacked}
 
-module _ (c p : ℕ) (rs m : List ℕ) (h : length rs ≡ 11) where
+module _ (c p : ℕ) (rs m : List ℕ) (h : length rs ≡ registerSize) where
   step-by : (b : Bool) → eqb (length m) 65536 ≡ b
       → stepBytesOf c p rs m ≡ ofStep (stepOf (unpacked rs) m .answer) c p rs (stepOf (unpacked rs) m .memory)
   unfolding stepBytesOf stepOf didOf
@@ -30,7 +30,7 @@ module _ (c p : ℕ) (rs m : List ℕ) (h : length rs ≡ 11) where
 abbrev pub uncounted : StepperCall → StepperCall
 uncounted a = stepperCall (a .outcome) 0 (a .place) (a .registers) (a .memory)
 
-module _ (c p : ℕ) (rs m : List ℕ) (budget : ℕ) (h : length rs ≡ 11) where
+module _ (c p : ℕ) (rs m : List ℕ) (budget : ℕ) (h : length rs ≡ registerSize) where
   pub run-agrees : length m ≡ 65536
       → runBytesOf c p rs m budget
       ≡ ofRun (runOf (unpacked rs) m budget .answer) p (runOf (unpacked rs) m budget .memory)

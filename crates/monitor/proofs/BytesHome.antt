@@ -1,13 +1,13 @@
 -- What comes home from registers and a memory comes home from the registers' bytes by C's run; so what the start call
 -- answers with 0 comes home.
 -- Assumes nothing.
-use Prim.Native.Nat.{ℕ, _≤_}
+use Prim.Native.Nat.{ℕ, _-_, _≤_}
 use mathlib.Core.Path.{_≡_, refl, sym, ap}
 use mathlib.Core.Bool.{Bool, true, false, cond}
 use mathlib.Core.List.{List}
 use native.Mathlib.Omega.{arith}
-use borrow.Author.Tests.{eq-eqb}
-use lib.Dec.{eqb}
+use borrow.Author.Tests.{eq-eqb, leb-true, leb-false}
+use lib.Dec.{eqb, leb}
 use lib.ListN.{length}
 use Rattle.registers.specs.declared.Cycles.{Cycles}
 use Rattle.registers.specs.declared.Registers.{Registers}
@@ -16,15 +16,16 @@ use Rattle.commands.specs.Number.{AllBytes}
 use Rattle.stepper.specs.Answer.{home, refused}
 use Rattle.stepper.specs.Run.{AfterRun, runOf}
 use Rattle.stepper.specs.Trace.{total}
-use Rattle.rules.specs.Claim.{Stops, ranHome}
+use Rattle.rules.specs.Claim.{WithinNeed, Stops, ranHome}
 use Rattle.verdict.specs.declared.Started.{Started}
 use Rattle.verdict.specs.declared.Started.the-variants.{At, Refused}
 use Rattle.verdict.specs.Routine.{AfterStart, startRoutineOf, StartCertified}
 use Rattle.verdict.proofs.Home.{started-comes-home}
 use Rattle.verdict.proofs.StartNumbered.{start-numbered}
-use Rattle.monitor.specs.RegisterBytes.{packed, unpacked}
+use Rattle.monitor.specs.BigEndian.{wordIn}
+use Rattle.monitor.specs.RegisterBytes.{registerSize, packed, unpacked}
 use Rattle.monitor.specs.StepperCalls.{stepperCall, runBytesOf}
-use Rattle.monitor.proofs.RegisterRoundTrip.{unpacked-packed}
+use Rattle.monitor.proofs.RegisterRoundTrip.{unpacked-packed, lowest-word}
 use Rattle.monitor.specs.Home.{BytesComeHome, StartedBytesComeHome}
 use Rattle.monitor.specs.RoutineCalls.{StartCall, startCall, ofStarted, startBytesOf}
 
@@ -38,7 +39,8 @@ unfolding runOf
 whole-by r m b q n k h true e = refl
 whole-by r m b q n k h false e = absurd (refused-not-home _ _ _ _ _ _ (ap (λ (a : AfterRun). a .answer) (rw e at h)))
 
-module _ (ticket image rs m : List ℕ) (eleven : length rs ≡ 11) (C : StartCertified ticket image (unpacked rs) m) where
+module _ (ticket image rs m : List ℕ) (sized : length rs ≡ registerSize)
+    (C : StartCertified ticket image (unpacked rs) m) where
   whole : eqb (length m) 65536 ≡ true
   whole =
       let H = C .comes-home in
@@ -47,12 +49,24 @@ module _ (ticket image rs m : List ℕ) (eleven : length rs ≡ 11) (C : StartCe
   covered : (b c p : ℕ) → let H = C .comes-home in
       total (H .events) ≤ b → runBytesOf c p rs m b ≡ stepperCall 0 (total (H .events)) p (packed (H .last)) (H .memory)
   unfolding runBytesOf
-  covered b c p l = rw (eq-eqb _ _ eleven, whole, C .comes-home .covered b l)
+  covered b c p l = rw (eq-eqb _ _ sized, whole, C .comes-home .covered b l)
 
   stopped : (b c p : ℕ) (S : Stops (unpacked rs) m (C .comes-home .events) b)
       → runBytesOf c p rs m b ≡ stepperCall 100 (total (S .before)) p (packed (S .registers)) (S .memory)
   unfolding runBytesOf
-  stopped b c p S = rw (eq-eqb _ _ eleven, whole, S .answer)
+  stopped b c p S = rw (eq-eqb _ _ sized, whole, S .answer)
+
+  -- by whether the budget covers the way
+  lowest-by : (b c p : ℕ) (w : Bool) → leb (total (C .comes-home .events)) b ≡ w
+      → WithinNeed (C .certified .fields) (C .stack .0 - 2) (wordIn (runBytesOf c p rs m b .registers) 11)
+  lowest-by b c p true e =
+      let H = C .comes-home in
+      let l = leb-true (total (H .events)) b e in
+      rw (covered b c p l, lowest-word (H .last)) (rw (H .covered b l) at (H .run-lowest b))
+  lowest-by b c p false e =
+      let H = C .comes-home in
+      let S = H .uncovered b (leb-false (total (H .events)) b e) in
+      rw (stopped b c p S, lowest-word (S .registers)) (rw (S .answer) at (H .run-lowest b))
 
   abbrev bytes-come-home : BytesComeHome ticket image rs m
   bytes-come-home =
@@ -60,15 +74,16 @@ module _ (ticket image rs m : List ℕ) (eleven : length rs ≡ 11) (C : StartCe
         start = C;
         covered = covered;
         uncovered = λ b c p l. let S = C .comes-home .uncovered b l in (S, stopped b c p S);
+        lowest = λ b c p. lowest-by b c p (leb (total (C .comes-home .events)) b) refl;
       }
 
 -- of the registers that the bytes hold, within the same figures
-from-unpacked : (ticket image rs m : List ℕ) → length rs ≡ 11 → (r : Registers) → r ≡ unpacked rs
+from-unpacked : (ticket image rs m : List ℕ) → length rs ≡ registerSize → (r : Registers) → r ≡ unpacked rs
     → (C : StartCertified ticket image r m)
     → (H : BytesComeHome ticket image rs m) × (H .start .cost ≡ C .cost) × (H .start .stack ≡ C .stack)
-from-unpacked ticket image rs m eleven r e = rw e (λ C. (bytes-come-home ticket image rs m eleven C, refl, refl))
+from-unpacked ticket image rs m sized r e = rw e (λ C. (bytes-come-home ticket image rs m sized C, refl, refl))
 
-packed-length : (r : Registers) → length (packed r) ≡ 11
+packed-length : (r : Registers) → length (packed r) ≡ registerSize
 unfolding packed
 packed-length r = refl
 
@@ -89,12 +104,12 @@ module _ (p : ℕ) (ticket image rs m : List ℕ) (bytes : AllBytes ticket) wher
   home-of (At q) h z = packed-come-home ticket image q _ (started-comes-home ticket image bytes _ m q h) .0
   home-of (Refused r) h z = absurd (omega (arith, z, start-numbered ticket image _ m r h))
 
-  -- by whether there are 11 register bytes
-  home-sized : (eleven : Bool) → Home (cond eleven (ofStarted (b .answer) p rs (b .memory)) (startCall 21 0 rs m))
+  -- by whether there are as many register bytes as are asked for
+  home-sized : (sized : Bool) → Home (cond sized (ofStarted (b .answer) p rs (b .memory)) (startCall 21 0 rs m))
   home-sized true z = home-of (b .answer) refl z
   home-sized false z = absurd (omega (arith, z))
 
 pub started-bytes-come-home : (p : ℕ) (ticket image rs m : List ℕ) → AllBytes ticket
     → StartedBytesComeHome p ticket image rs m
 unfolding startBytesOf
-started-bytes-come-home p ticket image rs m bytes = home-sized p ticket image rs m bytes (eqb (length rs) 11)
+started-bytes-come-home p ticket image rs m bytes = home-sized p ticket image rs m bytes (eqb (length rs) registerSize)

@@ -6,7 +6,7 @@ use Prim.Native.Nat.{ℕ, _+_, _*_, _/_, _%_, _<_}
 use native.Mathlib.Omega.{arith}
 use lib.ListN.{length, getD}
 use Rattle.registers.specs.declared.Registers.{Registers}
-use Rattle.monitor.specs.RegisterBytes.{packed, unpacked}
+use Rattle.monitor.specs.RegisterBytes.{registerSize, packed, unpacked}
 use Rattle.monitor.proofs.Elements.{all-elements}
 use Rattle.monitor.specs.BigEndian.{wordIn}
 
@@ -18,6 +18,10 @@ pub unpacked-packed : (r : Registers) → unpacked (packed r) ≡ r
 unfolding packed unpacked
 unpacked-packed r = simp halves
 
+pub lowest-word : (r : Registers) → wordIn (packed r) 11 ≡ r .lowest
+unfolding packed
+lowest-word r = halves (r .lowest)
+
 module _ (bs : List ℕ) (bytes : (i : ℕ) → getD bs i 0 < 256) where
   high : (i : ℕ) → wordIn bs i / 256 ≡ getD bs i 0
   high i = omega (arith, bytes (i + 1))
@@ -25,6 +29,6 @@ module _ (bs : List ℕ) (bytes : (i : ℕ) → getD bs i 0 < 256) where
   low : (i : ℕ) → wordIn bs i % 256 ≡ getD bs (i + 1) 0
   low i = omega (arith, bytes (i + 1))
 
-  pub packed-unpacked : length bs ≡ 11 → packed (unpacked bs) ≡ bs
+  pub packed-unpacked : length bs ≡ registerSize → packed (unpacked bs) ≡ bs
   unfolding packed unpacked
-  packed-unpacked h = simp (high, low) (sym (all-elements bs 11 h))
+  packed-unpacked h = simp (high, low) (sym (all-elements bs registerSize h))

@@ -9,17 +9,17 @@ use Rattle.registers.specs.declared.Registers.{Registers}
 use Rattle.stepper.specs.Answer.{Answer, RunAnswer}
 use Rattle.stepper.specs.Step.{stepOf}
 use Rattle.stepper.specs.Run.{runOf}
-use Rattle.monitor.specs.RegisterBytes.{unpacked}
+use Rattle.monitor.specs.RegisterBytes.{registerSize, unpacked}
 use Rattle.monitor.specs.StepperCalls.{StepperCall, stepperCall, ofStep, ofRun, ifSized, stepBytesOf, runBytesOf}
 
 module _ (c : ℕ) (rs m : List ℕ) (a : StepperCall) where
-  pub bad-registers : (length rs ≡ 11 → ⊥) → stepperCall 21 c 0 rs m ≡ ifSized c rs m a
+  pub bad-registers : (length rs ≡ registerSize → ⊥) → stepperCall 21 c 0 rs m ≡ ifSized c rs m a
   bad-registers h = simp (ne-eqb _ _ h)
 
-  pub bad-memory : length rs ≡ 11 → (length m ≡ 65536 → ⊥) → stepperCall 21 c 0 rs m ≡ ifSized c rs m a
+  pub bad-memory : length rs ≡ registerSize → (length m ≡ 65536 → ⊥) → stepperCall 21 c 0 rs m ≡ ifSized c rs m a
   bad-memory h g = simp (eq-eqb _ _ h, ne-eqb _ _ g)
 
-module _ (rs m : List ℕ) (h : length rs ≡ 11) (g : length m ≡ 65536) {r : Registers} (e : r ≡ unpacked rs)
+module _ (rs m : List ℕ) (h : length rs ≡ registerSize) (g : length m ≡ 65536) {r : Registers} (e : r ≡ unpacked rs)
     {m′ : List ℕ} (c p : ℕ) where
   pub steps : {a : Answer} → a ≡ stepOf r m .answer → m′ ≡ stepOf r m .memory
       → ofStep a c p rs m′ ≡ stepBytesOf c p rs m

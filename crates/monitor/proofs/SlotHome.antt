@@ -29,12 +29,12 @@ module _ (ticket image : List ℕ) (bytes : AllBytes ticket) where
   -- the slot's header is the certified one, and a start by it comes home
   slot-comes-home : (c : Certificate) → certificationOf ticket image ≡ Granted c → SlotComesHome ticket image (slotOf c)
   unfolding startSlotOf
-  slot-comes-home c e p rs m eleven whole =
+  slot-comes-home c e p rs m sized whole =
       let S = certificate-comes-home ticket image bytes c e (dataOf (unpacked rs)) m whole in
       let after = loadedOf (c .header) image m in
       let H = packed-come-home ticket image (S .0) after (S .2) in
       let started : startSlotOf p (slotOf c) image rs m ≡ startCall 0 p (packed (S .0)) after =
-      rw (header-in-slot c, eq-eqb _ _ (slot-length c), eq-eqb _ _ eleven, S .1) in
+      rw (header-in-slot c, eq-eqb _ _ (slot-length c), eq-eqb _ _ sized, S .1) in
       rw (started, certificate-in-slot c) (refl, H .0, H .1 ∙ S .3, H .2 ∙ S .4)
 
   module _ (p : ℕ) (slot : List ℕ) where

@@ -1,21 +1,23 @@
 -- Demand 3 of C's bytes: what the C calls start, C's run brings home.
 -- Assumes nothing.
-use Prim.Native.Nat.{ℕ, _≤_, _<_}
+use Prim.Native.Nat.{ℕ, _-_, _≤_, _<_}
 use mathlib.Core.Path.{_≡_}
 use mathlib.Core.List.{List}
 use lib.ListN.{length}
 use Rattle.commands.specs.Number.{AllBytes}
 use Rattle.stepper.specs.Trace.{total}
-use Rattle.rules.specs.Claim.{Stops}
+use Rattle.rules.specs.Claim.{WithinNeed, Stops}
 use Rattle.verdict.specs.Routine.{StartCertified}
-use Rattle.monitor.specs.RegisterBytes.{packed, unpacked}
+use Rattle.monitor.specs.BigEndian.{wordIn}
+use Rattle.monitor.specs.RegisterBytes.{registerSize, packed, unpacked}
 use Rattle.monitor.specs.StepperCalls.{stepperCall, runBytesOf}
 use Rattle.monitor.specs.Slot.{certificateIn}
 use Rattle.monitor.specs.RoutineCalls.{startBytesOf, certifyCall, certifyBytesOf, startSlotOf}
 
 -- from the register bytes rs and the memory m the routine comes home; and so does C's run on them, whatever is lent as
 -- cycles c and place p: for every budget b that covers the way home it answers home, with the way's cycles, and the
--- registers and the memory at its end; for every other budget spent, as far along the way as the budget goes
+-- registers and the memory at its end; for every other budget spent, as far along the way as the budget goes. For every
+-- budget the lowest SP, in bytes 11 and 12 of the registers that it leaves, is not below the start's SP less the need
 pub record BytesComeHome (ticket image rs m : List ℕ) : Type 0 where
   pub start : StartCertified ticket image (unpacked rs) m
   pub covered : (b c p : ℕ) → let H = start .comes-home in
@@ -23,6 +25,8 @@ pub record BytesComeHome (ticket image rs m : List ℕ) : Type 0 where
   pub uncovered : (b c p : ℕ) → b < total (start .comes-home .events)
       → (S : Stops (unpacked rs) m (start .comes-home .events) b)
       × (runBytesOf c p rs m b ≡ stepperCall 100 (total (S .before)) p (packed (S .registers)) (S .memory))
+  pub lowest : (b c p : ℕ)
+      → WithinNeed (start .certified .fields) (start .stack .0 - 2) (wordIn (runBytesOf c p rs m b .registers) 11)
 
 -- what is judged and started comes home
 abbrev pub StartedBytesComeHome : (place : ℕ) (ticket image registers memory : List ℕ) → Type 0
@@ -33,7 +37,7 @@ StartedBytesComeHome p ticket image rs m =
 -- certified figures
 abbrev pub SlotComesHome : (ticket image slot : List ℕ) → Type 0
 SlotComesHome ticket image slot =
-    (p : ℕ) (rs m : List ℕ) → length rs ≡ 11 → length m ≡ 65536
+    (p : ℕ) (rs m : List ℕ) → length rs ≡ registerSize → length m ≡ 65536
     → let b = startSlotOf p slot image rs m in
     (b .outcome ≡ 0)
     × (H : BytesComeHome ticket image (b .registers) (b .memory))

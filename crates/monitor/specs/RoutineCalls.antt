@@ -17,7 +17,7 @@ use Rattle.verdict.specs.declared.Started.the-variants.{At, Refused}
 use Rattle.verdict.specs.Certification.{certificationOf}
 use Rattle.verdict.specs.Start.{startedOf, loadedOf}
 use Rattle.verdict.specs.Routine.{startRoutineOf}
-use Rattle.monitor.specs.RegisterBytes.{packed, unpacked}
+use Rattle.monitor.specs.RegisterBytes.{registerSize, packed, unpacked}
 use Rattle.monitor.specs.Slot.{slotOf, headerIn}
 
 -- the verdict's call: its outcome, and the numbers that it was lent, afterwards
@@ -55,7 +55,7 @@ ofStarted (Refused r) p rs m = startCall (r .number) (r .place) rs m
 unfoldable pub startBytesOf : (place : ℕ) (ticket image registers memory : List ℕ) → StartCall
 startBytesOf p ticket image rs m =
     let b = startRoutineOf ticket image (dataOf (unpacked rs)) m in
-    cond (eqb (length rs) 11) (ofStarted (b .answer) p rs (b .memory)) (startCall 21 0 rs m)
+    cond (eqb (length rs) registerSize) (ofStarted (b .answer) p rs (b .memory)) (startCall 21 0 rs m)
 
 -- the call that fills a slot: its outcome, and the number and the bytes that it was lent, afterwards
 pub record CertifyCall : Type 0 where
@@ -81,6 +81,6 @@ unfoldable pub startSlotOf : (place : ℕ) (slot image registers memory : List �
 startSlotOf p bs image rs m =
     let h = headerIn bs in
     cond
-    (eqb (length bs) 24 && eqb (length rs) 11)
+    (eqb (length bs) 24 && eqb (length rs) registerSize)
     (ofStarted (startedOf h (dataOf (unpacked rs)) image m) p rs (loadedOf h image m))
     (startCall 21 0 rs m)

@@ -10,7 +10,7 @@ use Rattle.registers.specs.Registers.{resetOf}
 use Rattle.stepper.specs.Answer.{Answer, done, refused, RunAnswer, home, spent, refused as runRefused}
 use Rattle.stepper.specs.Step.{stepOf}
 use Rattle.stepper.specs.Run.{runOf}
-use Rattle.monitor.specs.RegisterBytes.{packed, unpacked}
+use Rattle.monitor.specs.RegisterBytes.{registerSize, packed, unpacked}
 
 -- a call's outcome, and every number and byte that it was lent, afterwards
 pub record StepperCall : Type 0 where
@@ -38,7 +38,7 @@ ofRun (runRefused n at q k) p m = stepperCall n (k .0) at (packed q) m
 
 -- the lengths that a step and a run ask for
 abbrev pub sized : List ℕ → List ℕ → Bool
-sized rs m = eqb (length rs) 11 && eqb (length m) 65536
+sized rs m = eqb (length rs) registerSize && eqb (length m) 65536
 
 -- refusal 21, looked at first, changes nothing but the place, which is 0
 abbrev pub ifSized : (c : ℕ) (rs m : List ℕ) → StepperCall → StepperCall
@@ -57,5 +57,5 @@ pub record ResetCall : Type 0 where
 
 unfoldable pub resetBytesOf : List ℕ → ResetCall
 resetBytesOf rs =
-    cond (eqb (length rs) 11) (record { outcome = 0; registers = packed resetOf })
+    cond (eqb (length rs) registerSize) (record { outcome = 0; registers = packed resetOf })
     (record { outcome = 21; registers = rs })

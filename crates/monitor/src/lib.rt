@@ -7,13 +7,14 @@ ghost use Rattle.monitor.specs.StepperCalls.{stepperCall, resetBytesOf, 
 ghost use Rattle.monitor.specs.RoutineCalls.{verdictCall, ofVerdict, startCall, startBytesOf, certifyCall};
 ghost use Rattle.monitor.specs.RoutineCalls.{certifyBytesOf, startSlotOf};
 ghost use Rattle.monitor.specs.Home.{StartedBytesComeHome, FilledSlotComesHome, StartsFromFilledSlot};
+use crate::register_bytes::REGISTER_BYTES;
 use crate::register_bytes::pack;
 use answers::Verdict;
 use registers::Registers;
 use verdict::verdict;
 
 mod big_endian; // numbers in lent bytes, high byte first
-mod register_bytes; // the registers as 11 bytes
+mod register_bytes; // the registers as 13 bytes
 mod stepper_calls; // a step and a run, and the numbers that a call answers
 mod routine_calls; // a routine judged and started, and the number that a call answers
 mod slot; // a routine judged into a slot, and started from it
@@ -23,7 +24,7 @@ pub extern "C" fn jugrond_reset(regs: &mut [u8]) -> u32
     ensures { λ q. ⌜ (q ≡ resetBytesOf (now (regs .entry)) .outcome)
         × (now (regs .exit) ≡ resetBytesOf (now (regs .entry)) .registers) ⌝ }
 {
-    if regs.len() != 11 {
+    if regs.len() != REGISTER_BYTES {
         return stepper_calls::BAD_LENGTH;
     }
     pack(Registers::reset(), regs);

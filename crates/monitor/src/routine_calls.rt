@@ -5,9 +5,10 @@ ghost use mathlib.Core.Path.{_≡_};
 ghost use Prim.Native.Nat.{ℕ};
 ghost use lib.ListN.{length};
 ghost use Rattle.registers.specs.Registers.{dataOf};
-ghost use Rattle.monitor.specs.RegisterBytes.{unpacked};
+ghost use Rattle.monitor.specs.RegisterBytes.{registerSize, unpacked};
 ghost use Rattle.monitor.specs.inner.Replies.{replyNumber, replyPlace};
 ghost use Rattle.monitor.specs.RoutineCalls.{startCall, ofStarted, startBytesOf};
+use crate::register_bytes::REGISTER_BYTES;
 use crate::register_bytes::pack;
 use crate::register_bytes::unpack;
 use crate::stepper_calls::DONE;
@@ -38,7 +39,7 @@ pub fn answer(a: RoutineReply, place: &mut u32) -> u32
 
 // A, B, X, Y and flags, as they are lent.
 pub fn data_in(regs: &[u8]) -> Data
-    requires { ⌜ length (now regs) ≡ 11 ⌝ }
+    requires { ⌜ length (now regs) ≡ registerSize ⌝ }
     ensures { λ d. ⌜ d ≡ dataOf (unpacked (now (regs .entry))) ⌝ }
 {
     let r = unpack(regs);
@@ -53,7 +54,7 @@ pub fn data_in(regs: &[u8]) -> Data
 
 // The start's registers are stored; a refusal stores nothing.
 pub fn stored(s: Started, regs: &mut [u8]) -> RoutineReply
-    requires { ⌜ length (now regs) ≡ 11 ⌝ }
+    requires { ⌜ length (now regs) ≡ registerSize ⌝ }
     ensures { λ a. ⌜ ((p : ℕ) (m : List ℕ) → startCall (replyNumber a) (replyPlace a p) (now (regs .exit)) m
         ≡ ofStarted s p (now (regs .entry)) m) ⌝ }
 {
@@ -71,7 +72,7 @@ pub fn start_on(ticket: &[u8], image: &[u8], regs: &mut [u8], mem: &mut [u8]) ->
     ensures { λ a. ⌜ ((p : ℕ) → startCall (replyNumber a) (replyPlace a p) (now (regs .exit)) (now (mem .exit))
         ≡ startBytesOf p (now (ticket .entry)) (now (image .entry)) (now (regs .entry)) (now (mem .entry))) ⌝ }
 {
-    if regs.len() != 11 {
+    if regs.len() != REGISTER_BYTES {
         return RoutineReply::Refused(refuse(21, 0));
     }
     let d = data_in(regs);

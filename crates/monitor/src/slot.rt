@@ -11,6 +11,7 @@ use crate::big_endian::long_in;
 use crate::big_endian::put_long;
 use crate::big_endian::put_word;
 use crate::big_endian::word_in;
+use crate::register_bytes::REGISTER_BYTES;
 use crate::routine_calls::RoutineReply;
 use crate::routine_calls::data_in;
 use crate::routine_calls::stored;
@@ -97,7 +98,7 @@ pub fn start_from(slot: &[u8], image: &[u8], regs: &mut [u8], mem: &mut [u8]) ->
     if slot.len() != 24 {
         return RoutineReply::Refused(refuse(21, 0));
     }
-    if regs.len() != 11 {
+    if regs.len() != REGISTER_BYTES {
         return RoutineReply::Refused(refuse(21, 0));
     }
     let d = data_in(regs);

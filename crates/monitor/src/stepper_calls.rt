@@ -3,9 +3,10 @@ ghost use mathlib.Core.Path.{_≡_};
 ghost use mathlib.Core.List.{List};
 ghost use Prim.Native.Nat.{ℕ, _<_};
 ghost use lib.ListN.{length};
-ghost use Rattle.monitor.specs.RegisterBytes.{packed};
+ghost use Rattle.monitor.specs.RegisterBytes.{registerSize, packed};
 ghost use Rattle.monitor.specs.StepperCalls.{stepperCall, stepBytesOf, runBytesOf};
 ghost use Rattle.monitor.specs.inner.Replies.{stepperReplied};
+use crate::register_bytes::REGISTER_BYTES;
 use crate::register_bytes::pack;
 use crate::register_bytes::unpack;
 use answers::Refusal;
@@ -46,7 +47,7 @@ fn address_of(x: Refusal) -> u16
 
 // The registers reached are stored.
 fn reached(q: Registers, regs: &mut [u8], a: StepperReply) -> StepperReply
-    requires { ⌜ length (now regs) ≡ 11 ⌝ }
+    requires { ⌜ length (now regs) ≡ registerSize ⌝ }
     ensures { λ b. ⌜ (now (regs .exit) ≡ packed q) × (b ≡ a) ⌝ }
 {
     pack(q, regs);
@@ -58,7 +59,7 @@ pub fn step_on(regs: &mut [u8], mem: &mut [u8]) -> StepperReply
     ensures { λ a. ⌜ ((c p : ℕ) → stepperReplied a c p (now (regs .exit)) (now (mem .exit))
         ≡ stepBytesOf c p (now (regs .entry)) (now (mem .entry))) ⌝ }
 {
-    if regs.len() != 11 {
+    if regs.len() != REGISTER_BYTES {
         return StepperReply::Refused(BAD_LENGTH, 0);
     }
     if mem.len() != 65536 {
@@ -76,7 +77,7 @@ pub fn run_on(regs: &mut [u8], mem: &mut [u8], budget: u32) -> StepperReply
     ensures { λ a. ⌜ ((c p : ℕ) → stepperReplied a c p (now (regs .exit)) (now (mem .exit))
         ≡ runBytesOf c p (now (regs .entry)) (now (mem .entry)) budget) ⌝ }
 {
-    if regs.len() != 11 {
+    if regs.len() != REGISTER_BYTES {
         return StepperReply::Refused(BAD_LENGTH, 0);
     }
     if mem.len() != 65536 {

@@ -31,6 +31,7 @@ pub fn registers(r: Registers) {
     word(b" SP ", r.sp);
     word(b" PC ", r.pc);
     byte(b" flags ", r.flags);
+    word(b" lowest ", r.lowest);
 }
 
 // A name, a number and the end of a line.

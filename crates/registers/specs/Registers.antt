@@ -1,4 +1,5 @@
--- The register set, its start, and its parts (document 01, "The machine" and "Start").
+-- The register record: the register set and the lowest SP so far; its start and its parts (document 01, "The machine"
+-- and "Start"; document 02, b).
 -- Assumes nothing.
 use Prim.Native.Nat.{ℕ, _+_, _*_, _/_, _%_}
 use Rattle.registers.specs.Word.{wrappingSub}
@@ -7,14 +8,15 @@ use Rattle.registers.specs.declared.Data.{Data}
 
 -- all zero, flags $D0
 abbrev pub resetOf : Registers
-resetOf = record { x = 0; y = 0; sp = 0; pc = 0; a = 0; b = 0; flags = 0xd0 }
+resetOf = record { x = 0; y = 0; sp = 0; pc = 0; lowest = 0; a = 0; b = 0; flags = 0xd0 }
 
--- PC at the entry; SP is T - 2, where T is the stack window's last address
+-- PC at the entry; SP, and with it the lowest SP, is T - 2, where T is the stack window's last address
 abbrev pub startOf : Data → ℕ → ℕ → Registers
 startOf d entry last =
-    record { x = d .x; y = d .y; sp = wrappingSub last 2; pc = entry; a = d .a; b = d .b; flags = d .flags }
+    let s = wrappingSub last 2 in
+    record { x = d .x; y = d .y; sp = s; pc = entry; lowest = s; a = d .a; b = d .b; flags = d .flags }
 
--- the registers but for PC and SP
+-- the registers but for PC, SP and the lowest SP
 abbrev pub dataOf : Registers → Data
 dataOf r = record { x = r .x; y = r .y; a = r .a; b = r .b; flags = r .flags }
 
@@ -42,13 +44,19 @@ abbrev pub withFlags : Data → ℕ → Data
 withFlags d f = record { x = d .x; y = d .y; a = d .a; b = d .b; flags = f }
 
 abbrev pub withData : Registers → Data → Registers
-withData r d = record { x = d .x; y = d .y; sp = r .sp; pc = r .pc; a = d .a; b = d .b; flags = d .flags }
-
-abbrev pub withPc : Registers → ℕ → Registers
-withPc r p = record { x = r .x; y = r .y; sp = r .sp; pc = p; a = r .a; b = r .b; flags = r .flags }
-
-abbrev pub withSp : Registers → ℕ → Registers
-withSp r s = record { x = r .x; y = r .y; sp = s; pc = r .pc; a = r .a; b = r .b; flags = r .flags }
+withData r d =
+    record { x = d .x; y = d .y; sp = r .sp; pc = r .pc; lowest = r .lowest; a = d .a; b = d .b; flags = d .flags }
 
 abbrev pub withPcSp : Registers → ℕ → ℕ → Registers
-withPcSp r p s = record { x = r .x; y = r .y; sp = s; pc = p; a = r .a; b = r .b; flags = r .flags }
+withPcSp r p s =
+    record { x = r .x; y = r .y; sp = s; pc = p; lowest = r .lowest; a = r .a; b = r .b; flags = r .flags }
+
+abbrev pub withPc : Registers → ℕ → Registers
+withPc r p = withPcSp r p (r .sp)
+
+abbrev pub withSp : Registers → ℕ → Registers
+withSp r s = withPcSp r (r .pc) s
+
+abbrev pub withLowest : Registers → ℕ → Registers
+withLowest r s =
+    record { x = r .x; y = r .y; sp = r .sp; pc = r .pc; lowest = s; a = r .a; b = r .b; flags = r .flags }

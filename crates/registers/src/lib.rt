@@ -1,15 +1,18 @@
-// An inner crate: the register set, the condition codes, 16-bit register arithmetic, and the two kinds of count.
+// An inner crate: the register record, the condition codes, 16-bit register arithmetic, and the two kinds of count.
 ghost use mathlib.Core.Path.{_≡_};
 ghost use Rattle.registers.specs.Registers.{resetOf, startOf, dataOf, accumulatorD, withA, withB, withD, withX};
 ghost use Rattle.registers.specs.Registers.{withY, withFlags, withData, withPc, withSp, withPcSp};
+ghost use Rattle.registers.specs.Registers.{withLowest};
 
 pub mod flags; // the condition codes and their byte
-pub mod word; // sums and differences that wrap at 65,536
+pub mod word; // sums and differences that wrap at 65,536; the smaller of two words
 
-// The words stand first, so that an answer that holds registers keeps each at one place.
+// The words stand first, so that an answer that holds registers keeps each at one place; among them the order was
+// chosen by measurement.
 pub struct Registers {
     pub x: u16,
     pub y: u16,
+    pub lowest: u16, // the smallest value that SP has had after any instruction
     pub sp: u16,
     pub pc: u16,
     pub a: u8,
@@ -17,7 +20,7 @@ pub struct Registers {
     pub flags: u8,
 }
 
-// The registers but for PC and SP: all that an instruction computes on.
+// The registers but for PC, SP and the lowest SP: all that an instruction computes on.
 pub struct Data {
     pub x: u16,
     pub y: u16,
@@ -38,6 +41,7 @@ impl Registers {
         y: 0,
         sp: 0,
         pc: 0,
+        lowest: 0,
         a: 0,
         b: 0,
         flags: 0xd0,
@@ -54,11 +58,13 @@ impl Registers {
     pub fn start(d: Data, entry: u16, last: u16) -> Registers
         ensures { λ r. ⌜ r ≡ startOf d entry last ⌝ }
     {
+        let sp = word::wrapping_sub(last, 2);
         Registers {
             x: d.x,
             y: d.y,
-            sp: word::wrapping_sub(last, 2),
+            sp: sp,
             pc: entry,
+            lowest: sp,
             a: d.a,
             b: d.b,
             flags: d.flags,
@@ -80,6 +86,7 @@ impl Registers {
             y: self.y,
             sp: self.sp,
             pc: self.pc,
+            lowest: self.lowest,
             a: v,
             b: self.b,
             flags: flags,
@@ -94,6 +101,7 @@ impl Registers {
             y: self.y,
             sp: self.sp,
             pc: self.pc,
+            lowest: self.lowest,
             a: self.a,
             b: v,
             flags: flags,
@@ -108,6 +116,7 @@ impl Registers {
             y: self.y,
             sp: self.sp,
             pc: self.pc,
+            lowest: self.lowest,
             a: (v / 256) as u8,
             b: (v % 256) as u8,
             flags: flags,
@@ -122,6 +131,7 @@ impl Registers {
             y: self.y,
             sp: self.sp,
             pc: self.pc,
+            lowest: self.lowest,
             a: self.a,
             b: self.b,
             flags: flags,
@@ -136,6 +146,7 @@ impl Registers {
             y: v,
             sp: self.sp,
             pc: self.pc,
+            lowest: self.lowest,
             a: self.a,
             b: self.b,
             flags: flags,
@@ -150,6 +161,7 @@ impl Registers {
             y: self.y,
             sp: self.sp,
             pc: self.pc,
+            lowest: self.lowest,
             a: self.a,
             b: self.b,
             flags: flags,
@@ -176,6 +188,22 @@ impl Registers {
             y: self.y,
             sp: sp,
             pc: pc,
+            lowest: self.lowest,
+            a: self.a,
+            b: self.b,
+            flags: self.flags,
+        }
+    }
+
+    pub fn with_lowest(self, lowest: u16) -> Registers
+        ensures { λ r. ⌜ r ≡ withLowest self lowest ⌝ }
+    {
+        Registers {
+            x: self.x,
+            y: self.y,
+            sp: self.sp,
+            pc: self.pc,
+            lowest: lowest,
             a: self.a,
             b: self.b,
             flags: self.flags,

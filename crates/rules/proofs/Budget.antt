@@ -1,7 +1,7 @@
 -- The run goes along a trace as far as the budget covers it.
 -- Assumes nothing.
 use Prim.Native.Nat.{ℕ, suc, _+_, _≤_, _<_}
-use mathlib.Core.Path.{_≡_, refl, _∙_}
+use mathlib.Core.Path.{_≡_, refl, ap, _∙_}
 use mathlib.Core.Logic.{⊎-elim}
 use mathlib.Core.List.{List, [], _∷_, _++_, append-assoc}
 use native.Mathlib.Omega.{arith}
@@ -15,8 +15,8 @@ use Rattle.stepper.specs.Step.{did, didOf}
 use Rattle.stepper.specs.Run.{AfterRun, runFrom, runOf}
 use Rattle.stepper.proofs.RunTurn.{at-home, covered, uncovered}
 use Rattle.stepper.proofs.EnoughTurns.{enough}
-use Rattle.stepper.specs.Flow.{flowOf}
-use Rattle.stepper.specs.Trace.{Event, total, Along, stay, then}
+use Rattle.stepper.proofs.Lowest.{trace-lowest}
+use Rattle.stepper.specs.Trace.{Event, eventAt, total, leastSp, Along, stay, then}
 use Rattle.rules.specs.Claim.{ranHome, ranSpent, Stops}
 use Rattle.rules.proofs.Obeys.{busy}
 
@@ -65,7 +65,7 @@ total-++ : (evs evs′ : List Event) → total (evs ++ evs′) ≡ total evs + t
 total-++ [] evs′ = rw zero-add refl
 total-++ (ev ∷ evs) evs′ = rw (total-++ evs evs′, add-assoc) refl
 
-module _ (r₀ : Registers) (m₀ : List ℕ) (whole : length m₀ ≡ 65536) (b : ℕ) where
+module _ (r₀ : Registers) (begins : r₀ .lowest ≡ r₀ .sp) (m₀ : List ℕ) (whole : length m₀ ≡ 65536) (b : ℕ) where
   -- where the next instruction is not covered
   stops-here : (before : List Event) {r q : Registers} {m : List ℕ} {ws : List Store} (ev : Event) (evs : List Event) →
       Along r₀ m₀ before r m
@@ -81,6 +81,7 @@ module _ (r₀ : Registers) (m₀ : List ℕ) (whole : length m₀ ≡ 65536) (b
     along = a;
     covered = l;
     uncovered = u;
+    lowest = trace-lowest a ∙ ap (λ (s : ℕ). leastSp s before) begins;
     answer = from-start b whole a l ∙ stands b (total before) r m away done u;
   }
 
@@ -90,13 +91,14 @@ module _ (r₀ : Registers) (m₀ : List ℕ) (whole : length m₀ ≡ 65536) (b
       → b < total before + total evs → Stops r₀ m₀ (before ++ evs) b
   stops before a l stay u = absurd (omega arith)
   stops before a l (then {r} {q} {m} {ws} {k} {evs} away done rest) u =
-      let ev : Event = record { flow = flowOf m (r .pc); stores = ws; cycles = k; sp = q .sp } in
+      let ev : Event = eventAt r m q ws k in
       let sum : total (before ++ (ev ∷ [])) ≡ total before + k = rw (total-++ before (ev ∷ []), add-zero) refl in
       ⊎-elim (λ c. let later = stops (before ++ (ev ∷ [])) (joined a (then away done stay)) (omega (arith, sum, c)) rest
       (omega (arith, sum)) in
       rw (append-assoc before (ev ∷ []) evs) at later)
       (λ c. stops-here before ev evs a l away done c) (le-or-lt (total before + k) b)
 
-pub run-stops : {r e : Registers} {m n : List ℕ} {evs : List Event} → length m ≡ 65536 → Along r m evs e n → (b : ℕ) →
-    b < total evs → Stops r m evs b
-run-stops {r} {m} whole a b u = stops r m whole b [] stay (omega arith) a (omega arith)
+-- from registers whose lowest SP is their SP
+pub run-stops : {r e : Registers} {m n : List ℕ} {evs : List Event} → r .lowest ≡ r .sp → length m ≡ 65536
+    → Along r m evs e n → (b : ℕ) → b < total evs → Stops r m evs b
+run-stops {r} {m} begins whole a b u = stops r begins m whole b [] stay (omega arith) a (omega arith)

@@ -3,16 +3,20 @@
 use Prim.Native.Nat.{ℕ, zero, suc, _≤_}
 use mathlib.Core.Path.{_≡_}
 use mathlib.Core.Logic.{_⊎_, inl, inr}
+use mathlib.Core.Bool.{Bool, true, false, cond}
 use mathlib.Core.List.{List, [], _∷_}
 use native.Mathlib.Omega.{arith}
+use lib.Dec.{ltb}
+use Rattle.registers.specs.Word.{smallerOf}
 use Rattle.registers.specs.declared.Registers.{Registers}
 use Rattle.memory.specs.Memory.{applied}
 use Rattle.ticket.specs.Fields.{Fields}
 use Rattle.rules.specs.Rules.{Accepted}
 use Rattle.stepper.specs.Flow.{flowOf}
-use Rattle.stepper.specs.Trace.{Event, total, Along, stay, then}
+use Rattle.stepper.specs.Trace.{Event, eventAt, total, Along, stay, then}
 use Rattle.rules.specs.InUse.{inUseAfter}
-use Rattle.rules.specs.Claim.{topOf, Keeps, Safe}
+use Rattle.rules.specs.Claim.{topOf, WithinNeed, Keeps, Safe}
+use Rattle.stepper.proofs.Lowest.{done-lowest}
 use Rattle.rules.proofs.Obeys.{busy}
 use Rattle.rules.proofs.Ready.{Ready, Arrived, Stepped, under-top, free, not-home, one-step}
 
@@ -27,11 +31,22 @@ pub record Course (f : Fields) (need : ℕ) (r : Registers) (m : List ℕ) (used
   pub empty : last .sp ≡ topOf f
   pub safe : Safe f need used events
 
+-- the smaller of two numbers is one of them
+one-of-two : (P : ℕ → Type 0) (a b : ℕ) → P a → P b → P (smallerOf a b)
+one-of-two P a b x y = by (ltb a b)
+  where
+    by : (c : Bool) → P (cond c a b)
+    by true = x
+    by false = y
+
 module _ {f : Fields} {image : List ℕ} (A : Accepted f image) where
-  module _ (r : Registers) (m : List ℕ) (used : List (List ℕ)) (p : ℕ) (away : r .pc ≡ 0 →
-      ⊥) (S : Stepped A r m used p) where
+  abbrev Near : ℕ → Type 0
+  Near sp = WithinNeed f (A .start .need .0) sp
+
+  module _ (r : Registers) (m : List ℕ) (used : List (List ℕ)) (p : ℕ) (away : r .pc ≡ 0 → ⊥)
+      (S : Stepped A r m used p) (low : Near (r .lowest)) where
     abbrev event : Event
-    event = record { flow = flowOf m (r .pc); stores = S .stores; cycles = S .cycles; sp = S .registers .sp }
+    event = eventAt r m (S .registers) (S .stores) (S .cycles)
 
     -- after the step
     abbrev Next : (Registers → List ℕ → List (List ℕ) → ℕ → Type 0) → Type 0
@@ -50,14 +65,20 @@ module _ {f : Fields} {image : List ℕ} (A : Accepted f image) where
       safe = (K, C .safe);
     }
 
-    next : (Next (Ready A) → Next (Course f (A .start .need .0))) → Arrived f (S .registers) ⊎ Next (Ready A) →
-        Course f (A .start .need .0) r m used p
+    lowered : Near (S .registers .sp) → Near (S .registers .lowest)
+    lowered near =
+        rw (done-lowest r (S .registers) m (S .stores) (S .cycles) (S .done))
+        (one-of-two Near (S .registers .sp) (r .lowest) near low)
+
+    next : (Next (Ready A) → Near (S .registers .lowest) → Next (Course f (A .start .need .0)))
+        → Arrived f (S .registers) ⊎ Next (Ready A) → Course f (A .start .need .0) r m used p
     next rest (inl a) =
         first (record {
           spares = S .spares;
           sp-low = omega (arith, a .sp);
           sp-high = omega (arith, a .sp);
           sp-need = omega (arith, a .sp);
+          lowest-need = omega (arith, lowered (omega (arith, a .sp)));
         })
         (record {
           events = [];
@@ -75,17 +96,18 @@ module _ {f : Fields} {image : List ℕ} (A : Accepted f image) where
           sp-low = omega (arith, free R);
           sp-high = omega (arith, under-top R, R .depth);
           sp-need = omega (arith, R .room);
+          lowest-need = omega (arith, lowered (omega (arith, R .room)));
         })
-        (rest R)
+        (rest R (lowered (omega (arith, R .room))))
 
   pub course : (n : ℕ) (r : Registers) (m : List ℕ) (used : List (List ℕ)) (p : ℕ) → p ≤ n → Ready A r m used p →
-      Course f (A .start .need .0) r m used p
-  course zero r m used p b R =
+      Near (r .lowest) → Course f (A .start .need .0) r m used p
+  course zero r m used p b R low =
       let S = one-step R in
       absurd (omega (arith, busy r (S .registers) m (S .stores) (S .cycles) (S .done), S .cost))
-  course (suc n) r m used p b R =
+  course (suc n) r m used p b R low =
       let S = one-step R in
-      next r m used p (not-home R) S
+      next r m used p (not-home R) S low
       (course n (S .registers) (applied (S .stores) m) (inUseAfter (flowOf m (r .pc)) (S .stores) used) (S .left)
       (omega (arith, busy r (S .registers) m (S .stores) (S .cycles) (S .done), S .cost)))
       (S .goes)

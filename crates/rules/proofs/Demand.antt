@@ -1,8 +1,8 @@
 -- Demand 3: an accepted routine comes home, whatever the data and the budget.
 -- Assumes nothing.
 use Prim.Native.Nat.{ℕ, _-_}
-use mathlib.Core.Path.{_≡_, sym, ap}
-use mathlib.Core.List.{List}
+use mathlib.Core.Path.{_≡_, refl, sym, ap}
+use mathlib.Core.List.{List, [], _∷_}
 use native.Mathlib.Omega.{arith}
 use Rattle.registers.specs.declared.Cycles.{Cycles}
 use Rattle.registers.specs.declared.StackBytes.{StackBytes}
@@ -12,10 +12,12 @@ use Rattle.answers.specs.declared.Verdict.the-variants.{Accept}
 use Rattle.rules.specs.Rules.{Accepted, Certified}
 use Rattle.rules.specs.Checks.{verdictOf}
 use Rattle.rules.proofs.Exact.{accepts-exactly}
-use Rattle.rules.specs.Claim.{Demand3}
+use Rattle.rules.specs.Claim.{homePair, Demand3}
 use Rattle.rules.proofs.Only.{only}
 use Rattle.rules.proofs.Budget.{run-home, run-stops}
-use Rattle.rules.proofs.Start.{start-course}
+use Rattle.rules.proofs.RunLowest.{run-near}
+use Rattle.rules.proofs.Start.{start-near, start-course}
+use Rattle.stepper.proofs.Lowest.{trace-lowest}
 
 pub comes-home : (f : Fields) (image : List ℕ) (A : Accepted f image) →
     Demand3 f image (A .start .cost .0) (A .start .need .0)
@@ -32,7 +34,11 @@ comes-home f image A d m L =
       empty = c .empty;
       safe = c .safe;
       covered = run-home (L .whole) (c .along) (c .home);
-      uncovered = run-stops (L .whole) (c .along);
+      uncovered = run-stops refl (L .whole) (c .along);
+      run-lowest =
+          run-near f (A .start .need .0) (homePair f ∷ []) refl (L .whole) (c .along) (c .home) (c .safe)
+          (start-near f image A);
+      home-lowest = trace-lowest (c .along);
     }
 
 -- over the verdict of a ticket's and an image's bytes

@@ -14,4 +14,5 @@ pub mod Course
 pub mod Start
 pub mod Only
 pub mod Budget
+pub mod RunLowest
 pub mod Demand

@@ -83,7 +83,7 @@ module _ (r : Registers) (m : List ℕ) (low : r .sp < 65536) where
 
   -- next is the address after the instruction; w is what it computed, which does not matter
   by-form : (g : Form) (next k : ℕ) (w : Outcome) → didOf r m
-      ≡ executed (waits g) (r .pc) (effectWith g (withPc r next) w m) k
+      ≡ executed (waits g) r (effectWith g (withPc r next) w m) k
       → flowOf m (r .pc) ≡ flowBy g → Obeys (shapeBy g next k) r m
   unfolding effectBy addressOf wrappingAdd wrappingSub
   by-form Computes next k w e h = (_, _, e, h, inl refl, kept, none)

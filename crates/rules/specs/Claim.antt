@@ -1,5 +1,5 @@
 -- Demand 3 as a statement about `stepOf`'s instructions and `runOf`: an accepted routine comes home (document 01,
--- "Start" and "The way home").
+-- "Start" and "The way home"; document 02, b, of the lowest SP).
 -- Assumes nothing.
 use Prim.Native.Nat.{ℕ, _+_, _-_, _≤_, _<_}
 use mathlib.Core.Path.{_≡_}
@@ -10,12 +10,12 @@ use Rattle.registers.specs.declared.Data.{Data}
 use Rattle.registers.specs.declared.Registers.{Registers}
 use Rattle.registers.specs.Registers.{startOf}
 use Rattle.memory.specs.Memory.{Store, byteAt}
-use Rattle.stepper.specs.Answer.{home, spent}
+use Rattle.stepper.specs.Answer.{home, spent, registersReached}
 use Rattle.stepper.specs.Run.{AfterRun, runOf}
 use Rattle.ticket.specs.Fields.{Fields}
 use Rattle.commands.specs.Every.{Every}
 use Rattle.ticket.specs.Rules.{In}
-use Rattle.stepper.specs.Trace.{Event, total, Along}
+use Rattle.stepper.specs.Trace.{Event, total, leastSp, Along}
 use Rattle.rules.specs.InUse.{inUseAfter}
 
 -- T, the stack window's last address
@@ -36,12 +36,18 @@ pub record Spares (f : Fields) (used : List (List ℕ)) (w : Store) : Type 0 whe
   pub code : In (f .header .code) (w .at) → ⊥
   pub returns : Every (Every (λ a. w .at ≡ a → ⊥)) used
 
--- after an instruction SP lies from one below the stack window to T, and never more than need below the start's
+-- not below the start's SP, which is T - 2, less need: as numbers, so nothing wraps
+abbrev pub WithinNeed : (f : Fields) (need sp : ℕ) → Type 0
+WithinNeed f need sp = topOf f ≤ sp + 2 + need
+
+-- after an instruction SP lies from one below the stack window to T; it, and the lowest SP in the registers, is never
+-- more than need below the start's
 pub record Keeps (f : Fields) (need : ℕ) (used : List (List ℕ)) (ev : Event) : Type 0 where
   pub spares : Every (Spares f used) (ev .stores)
   pub sp-low : f .header .stack .start ≤ ev .sp + 1
   pub sp-high : ev .sp ≤ topOf f
-  pub sp-need : topOf f ≤ ev .sp + 2 + need
+  pub sp-need : WithinNeed f need (ev .sp)
+  pub lowest-need : WithinNeed f need (ev .lowest)
 
 abbrev pub Safe : Fields → ℕ → List (List ℕ) → List Event → Type 0
 Safe f need used [] = Unit
@@ -69,6 +75,7 @@ pub record Stops (r : Registers) (m : List ℕ) (events : List Event) (b : ℕ) 
   pub along : Along r m before registers memory
   pub covered : total before ≤ b
   pub uncovered : b < total before + next .cycles
+  pub lowest : registers .lowest ≡ leastSp (r .sp) before
   pub answer : runOf r m b ≡ ranSpent registers memory (total before)
 
 -- from the registers r and the memory m, where cost and need are the entry's
@@ -89,6 +96,9 @@ pub record ComesHome (f : Fields) (cost need : ℕ) (r : Registers) (m : List �
   -- the run, for every budget
   pub covered : (b : ℕ) → total events ≤ b → runOf r m b ≡ ranHome last memory (total events)
   pub uncovered : (b : ℕ) → b < total events → Stops r m events b
+  -- the lowest SP that the run answers: for every budget within the need, and at home the least SP of the whole way
+  pub run-lowest : (b : ℕ) → WithinNeed f need (registersReached (runOf r m b .answer) .lowest)
+  pub home-lowest : last .lowest ≡ leastSp (r .sp) events
 
 -- of an accepted ticket and image, for all A, B, X, Y and flags and all memory outside the code and home bytes
 abbrev pub Demand3 : Fields → List ℕ → ℕ → ℕ → Type 0

@@ -8,8 +8,8 @@ use native.Mathlib.Omega.{arith}
 use lib.ListN.{length}
 use borrow.Author.Tests.{eq-eqb, ne-eqb}
 use Rattle.registers.proofs.Wrap.{plus-zero, plus-plus}
-use Rattle.registers.specs.Word.{wrappingAdd}
-use Rattle.registers.specs.Registers.{withPc}
+use Rattle.registers.specs.Word.{wrappingAdd, smallerOf}
+use Rattle.registers.specs.Registers.{withPc, withLowest}
 use Rattle.registers.specs.declared.Registers.{Registers}
 use Rattle.memory.specs.Memory.{byteAt, applied}
 use Rattle.opcodes.proofs.Fits.{fitting}
@@ -29,7 +29,7 @@ use Rattle.opcodes.specs.declared.instruction.Decoded.the-variants.{Instruction
 use Rattle.instructions.specs.Effect.{Effect, effectOf}
 use Rattle.instructions.specs.inner.Sited.{operandFrom, Executed, Waiting}
 use Rattle.stepper.specs.Answer.{refused}
-use Rattle.stepper.specs.Step.{fetched, carriedOut, didOf, stepOf}
+use Rattle.stepper.specs.Step.{fetched, loweredFrom, carriedOut, didOf, stepOf}
 use Rattle.stepper.specs.inner.Until.{afterDone}
 
 pub unfit : (r : Registers) (m : List ℕ) → (length m ≡ 65536 → ⊥)
@@ -84,7 +84,11 @@ module _ {r : Registers} {m : List ℕ} {p s e : ℕ} (h : Here r m p s e) where
   unfolding stepOf didOf carriedOut
   held t = simp (eq-eqb _ _ (h .whole), place r m (h .low), says .0, decoded, says .2, t)
 
-  carried : waitsHere ≡ false → stepOf r m ≡ afterDone (effect .regs) (e % 256) (applied (effect .stores) m)
+  -- the registers that the step hands on, where the instruction leaves q
+  abbrev lowered : Registers → Registers
+  lowered q = loweredFrom r q
+
+  carried : waitsHere ≡ false → stepOf r m ≡ afterDone (lowered (effect .regs)) (e % 256) (applied (effect .stores) m)
   unfolding stepOf didOf carriedOut effect
   carried t = simp (eq-eqb _ _ (h .whole), place r m (h .low), says .0, decoded, says .2, t)
 
@@ -96,19 +100,24 @@ module _ {r : Registers} {m : List ℕ} {p s e : ℕ} (h : Here r m p s e) where
     pub waiting : b ≡ true → stepOf r m ≡ record { answer = refused 23 (r .pc); memory = m }
     waiting t = held (waits-here ∙ t)
 
-    pub done-here : b ≡ false → stepOf r m ≡ afterDone (effect .regs) (e % 256) (applied (effect .stores) m)
+    pub done-here : b ≡ false
+        → stepOf r m ≡ afterDone (lowered (effect .regs)) (e % 256) (applied (effect .stores) m)
     done-here t = carried (waits-here ∙ t)
 
-    -- k is a number of the mode, and the code executes the two from these registers v
+    -- k is a number of the mode, and the code executes the two from these registers v; the lowest SP, which it keeps
+    -- beside the registers, is low before and low′ after
     pub executes : b ≡ false → (k : ℕ) → modeOf k ≡ modeAt p → {from next : ℕ} {v q : Registers} {m′ : List ℕ}
+        {low low′ : ℕ}
         → from ≡ wrappingAdd (r .pc) s → next ≡ wrappingAdd (r .pc) (e / 256) → v ≡ withPc r next
-        → Executed (effectOf (actionOf n) (operandFrom (modeOf k) from m) v m) q m m′ →
-        stepOf r m ≡ afterDone q (e % 256) m′
+        → Executed (effectOf (actionOf n) (operandFrom (modeOf k) from m) v m) q m m′
+        → r .lowest ≡ low → low′ ≡ smallerOf (q .sp) low → stepOf r m ≡ afterDone (withLowest q low′) (e % 256) m′
     unfolding effect
-    executes t k mode {from} {next} {v} {q} {m′} ef en ev x =
+    executes t k mode {from} {next} {v} {q} {m′} {low} {low′} ef en ev x before after =
         let y : Executed effect q m m′ = rw (action, mode, ef, ev, en) at x in
-        done-here t ∙ ap (λ (z : Registers). afterDone z (e % 256) (applied (effect .stores) m)) (sym (y .0))
-        ∙ ap (λ (z : List ℕ). afterDone q (e % 256) z) (sym (y .1))
+        let same : lowered q ≡ withLowest q low′ = rw (before, after) in
+        done-here t ∙ ap (λ (z : Registers). afterDone (lowered z) (e % 256) (applied (effect .stores) m)) (sym (y .0))
+        ∙ ap (λ (z : List ℕ). afterDone (lowered q) (e % 256) z) (sym (y .1))
+        ∙ ap (λ (z : Registers). afterDone z (e % 256) m′) same
 
 pub fit : (p n k : ℕ) → actionOf n ≡ actionAt p → modeOf k ≡ modeAt p → fits (actionOf n) (modeOf k) ≡ true
 fit p n k action mode = rw (action, mode) (fitting p)

@@ -27,7 +27,7 @@ use Rattle.instructions.specs.Effect.{Effect, effectOf}
 use Rattle.stepper.specs.Step.{fetched, executed, carriedOut, didIf, didOf, after, stepOf}
 
 module _ (r : Registers) (m : List ℕ) (q : Registers) (k : Cycles) where
-  by-wait : (b : Bool) (e : Effect) (c : ℕ) → after (executed b (r .pc) e c) m .answer ≡ done q k → c ≡ k .0
+  by-wait : (b : Bool) (e : Effect) (c : ℕ) → after (executed b r e c) m .answer ≡ done q k → c ≡ k .0
   by-wait true e c s = let z : _≡_ {A = ℕ} 0 1 = cc in absurd (omega (arith, z))
   by-wait false e c s = ap (λ (x : Cycles). x .0) (cc)
 

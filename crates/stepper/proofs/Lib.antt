@@ -10,5 +10,6 @@ pub mod UntilHome
 pub mod RunTurn
 pub mod EnoughTurns
 pub mod Sum
+pub mod Lowest
 pub mod Apart
 pub mod RecordCell

@@ -28,7 +28,7 @@ StepPlaced (done q k) pc = Unit
 StepPlaced (refused n p) pc = Placed n p pc
 
 module _ (r : Registers) (m : List ℕ) where
-  by-wait : (b : Bool) (e : Effect) (c : ℕ) → StepPlaced (after (executed b (r .pc) e c) m .answer) (r .pc)
+  by-wait : (b : Bool) (e : Effect) (c : ℕ) → StepPlaced (after (executed b r e c) m .answer) (r .pc)
   by-wait true e c = (omega arith, omega arith, omega arith)
   by-wait false e c = tt
 

@@ -14,8 +14,7 @@ use Rattle.memory.specs.Memory.{Store, applied}
 use Rattle.stepper.specs.Answer.{registersReached, cyclesSpent}
 use Rattle.stepper.specs.Step.{Did, did, stopped, didOf, after, stepOf}
 use Rattle.stepper.specs.Run.{AfterRun, Rest, ifCovered, ifDone, turn, runFrom, runIf, runOf}
-use Rattle.stepper.specs.Trace.{Event, total, Along, stay, then}
-use Rattle.stepper.specs.Flow.{flowOf}
+use Rattle.stepper.specs.Trace.{Event, eventAt, total, Along, stay, then}
 
 -- from r and m a trace leads to what a run answers, and s and its cycles together are the cycles that the run answers
 abbrev SumsFrom : Registers → List ℕ → ℕ → AfterRun → Type 0
@@ -30,8 +29,7 @@ module _ (b : ℕ) (f : Rest) (sums : (t : ℕ) (q : Registers) (n : List ℕ) �
         → SumsFrom r m s (ifCovered c s r m k q (applied ws m) f)
     by-cover true {q} {ws} {k} e =
         let w = sums (s + k) q (applied ws m) in
-        let first : Event = record { flow = flowOf m (r .pc); stores = ws; cycles = k; sp = q .sp } in
-        (first ∷ w .0, then away e (w .1), omega (arith, w .2))
+        (eventAt r m q ws k ∷ w .0, then away e (w .1), omega (arith, w .2))
     by-cover false e = ([], stay, omega arith)
 
     by-did : (d : Did) → didOf r m ≡ d → SumsFrom r m s (ifDone (after d m .answer) (after d m .memory) b s r m f)

@@ -5,8 +5,8 @@ use mathlib.Core.Bool.{Bool, true, false}
 use mathlib.Core.List.{List}
 use lib.Dec.{eqb}
 use lib.ListN.{length}
-use Rattle.registers.specs.Word.{wrappingAdd}
-use Rattle.registers.specs.Registers.{withPc}
+use Rattle.registers.specs.Word.{wrappingAdd, smallerOf}
+use Rattle.registers.specs.Registers.{withPc, withLowest}
 use Rattle.registers.specs.declared.Registers.{Registers}
 use Rattle.memory.specs.Memory.{byteAt, Store, applied}
 use Rattle.opcodes.specs.Tables.{lengthAt, cyclesAt}
@@ -27,17 +27,22 @@ pub data Did : Type 0 where
   did : Registers → List Store → ℕ → Did
   stopped : (number place : ℕ) → Did
 
+-- after an instruction that leads from the registers r to q the lowest SP is the smaller of SP afterwards and the one
+-- handed in, as numbers (document 02, b)
+abbrev pub loweredFrom : Registers → Registers → Registers
+loweredFrom r q = withLowest q (smallerOf (q .sp) (r .lowest))
+
 -- WAI, STOP and TEST are refused
-abbrev pub executed : Bool → ℕ → Effect → ℕ → Did
-executed true pc e k = stopped 23 pc
-executed false pc e k = did (e .regs) (e .stores) k
+abbrev pub executed : Bool → Registers → Effect → ℕ → Did
+executed true r e k = stopped 23 (r .pc)
+executed false r e k = did (loweredFrom r (e .regs)) (e .stores) k
 
 -- what is decoded at a place is done with PC past the instruction
 unfoldable pub carriedOut : ℕ → Decoded → Registers → List ℕ → Did
 carriedOut p Nothing r m = stopped 22 (r .pc)
 carriedOut p (Instruction a o) r m =
     let q = withPc r (wrappingAdd (r .pc) (lengthAt p)) in
-    executed (waits (formOf a o (q .pc))) (r .pc) (effectOf a o q m) (cyclesAt p)
+    executed (waits (formOf a o (q .pc))) r (effectOf a o q m) (cyclesAt p)
 
 abbrev pub didIf : Bool → Registers → List ℕ → Did
 didIf true r m = let f = fetched m (r .pc) in carriedOut (placeIn f) (decodeAt (placeIn f) f) r m

@@ -20,6 +20,7 @@ use opcodes::table::costs;
 use opcodes::table::modes;
 use registers::Cycles;
 use registers::Registers;
+use registers::word::smaller;
 use registers::word::wrapping_add;
 
 // How the loop ends, with the registers reached and the cycles spent. A refusal is its number: its place, which is PC,
@@ -40,7 +41,8 @@ fn find(mem: &[u8], pc: u16, tc: &[u16; 1024]) -> Found
 }
 
 // The next instruction, wherever it stands, and those after it until PC is `last` or below: 0 is home, and 65,535 is
-// any address, so that one instruction ends the loop.
+// any address, so that one instruction ends the loop. The lowest SP is kept beside the registers, which hold it only
+// where they are handed on: in them it would cost the loop more host instructions.
 pub fn run_until(r: Registers, mem: &mut [u8], budget: u32, last: u16) -> Ended
     requires { ⌜ length (now mem) ≡ 65536 ⌝ }
     ensures { λ q. ⌜ (endedOf q ≡ untilOf last r (now (mem .entry)) budget .answer)
@@ -50,12 +52,14 @@ pub fn run_until(r: Registers, mem: &mut [u8], budget: u32, last: u16) -> Ended
     let ta = actions();
     let tm = modes();
     let mut q = r;
+    let mut lowest = r.lowest;
     let mut left: u32 = budget;
     loop {
-        let pc = q.pc;
+        let held = q.with_lowest(lowest);
+        let pc = held.pc;
         match find(mem, pc, &tc) {
             Found::Nothing => {
-                return Ended::Refused(q, Cycles(budget - left), 22);
+                return Ended::Refused(held, Cycles(budget - left), 22);
             }
             Found::At {
                 place,
@@ -64,22 +68,23 @@ pub fn run_until(r: Registers, mem: &mut [u8], budget: u32, last: u16) -> Ended
             } => {
                 let n = number_at(place, &ta);
                 if waits(n) {
-                    return Ended::Refused(q, Cycles(budget - left), 23);
+                    return Ended::Refused(held, Cycles(budget - left), 23);
                 }
                 let k = e % 256;
                 if left < k {
-                    return Ended::Spent(q, Cycles(budget - left));
+                    return Ended::Spent(held, Cycles(budget - left));
                 }
                 q = execute(
                     n,
                     mode_number_at(place, &tm),
                     wrapping_add(pc, size),
-                    q.with_pc(wrapping_add(pc, (e / 256) as u16)),
+                    held.with_pc(wrapping_add(pc, (e / 256) as u16)),
                     mem,
                 );
+                lowest = smaller(q.sp, lowest);
                 left = left - k;
                 if q.pc <= last {
-                    return Ended::Arrived(q, Cycles(budget - left));
+                    return Ended::Arrived(q.with_lowest(lowest), Cycles(budget - left));
                 }
             }
         }

@@ -63,7 +63,7 @@ fn with_byte(l: Line, label: &[u8], v: u8) -> Line
     with_text(with_text(l, label), &h)
 }
 
-fn with_word(l: Line, label: &[u8], v: u16) -> Line
+pub fn with_word(l: Line, label: &[u8], v: u16) -> Line
     requires { ⌜ l .len + length (now label) + 4 ≤ 256 ⌝ }
     ensures { λ r. ⌜ (written r ≡ written l ++ (now (label .entry) ++ hexOf v))
         × (r .len ≡ l .len + length (now (label .entry)) + 4) ⌝ }

@@ -1,11 +1,12 @@
-// The line that ends a trace: cycles and stack bytes, as used of what is certified. Where the budget did not cover the
-// way, it stands in place of the certified cycles.
+// The line that ends a trace: cycles and stack bytes, as used of what is certified, and the lowest SP. Where the budget
+// did not cover the way, it stands in place of the certified cycles.
 ghost use mathlib.Core.Path.{_≡_};
 ghost use Prim.Native.Nat.{_≤_};
 ghost use lib.ListN.{length};
 ghost use Rattle.lists.specs.Splice.{spliced};
 ghost use Rattle.text.specs.Line.{written};
 ghost use Rattle.text.specs.Last.{totalsText, homeLine, spentLine};
+use crate::columns::with_word;
 use crate::line::Line;
 use crate::line::empty;
 use crate::line::put;
@@ -19,6 +20,7 @@ pub struct Totals {
     pub allowed: Cycles,
     pub stack: StackBytes,
     pub certified: StackBytes,
+    pub lowest: u16,
 }
 
 fn line(label: &[u8], t: Totals) -> Line
@@ -27,7 +29,8 @@ fn line(label: &[u8], t: Totals) -> Line
 {
     let a = with_pair(empty(), label, t.cycles.0, t.allowed.0);
     let b = with_pair(a, b" stack=", t.stack.0 as u32, t.certified.0 as u32);
-    with_text(b, b"\n")
+    let c = with_word(b, b" lowest=", t.lowest);
+    with_text(c, b"\n")
 }
 
 // How many bytes the line has; it stands at the beginning of the output.

@@ -1,13 +1,15 @@
-// A line for each address: how often it was executed, and the least and the most cycles to go that were seen there,
-// beside the cost that its mark claims.
+// A line for each address: how often it was executed, the least and the most cycles to go that were seen there, and the
+// lowest SP after it, beside the cost that its mark claims.
 ghost use mathlib.Core.Path.{_≡_};
 ghost use mathlib.Core.List.{_++_};
 ghost use Prim.Native.Nat.{_+_, _≤_, _<_};
 ghost use lib.ListN.{length};
 ghost use Rattle.lists.specs.Splice.{spliced};
+ghost use Rattle.registers.specs.Word.{smallerOf};
 ghost use Rattle.text.specs.Line.{written};
-ghost use Rattle.text.specs.Summary.{lesserOf, greaterOf, visitedOf, visitsText, summaryLine};
+ghost use Rattle.text.specs.Summary.{greaterOf, visitedOf, visitsText, summaryLine};
 use crate::columns::with_listing;
+use crate::columns::with_word;
 use crate::line::Line;
 use crate::line::empty;
 use crate::line::put;
@@ -15,9 +17,11 @@ use crate::line::with_field;
 use crate::line::with_text;
 use crate::listing::Listing;
 use registers::Cycles;
+use registers::word::smaller;
 
+// As `smaller`, of 32 bits.
 fn lesser(a: u32, b: u32) -> u32
-    ensures { λ r. ⌜ r ≡ lesserOf a b ⌝ }
+    ensures { λ r. ⌜ r ≡ smallerOf a b ⌝ }
 {
     if a < b { a } else { b }
 }
@@ -28,11 +32,12 @@ fn greater(a: u32, b: u32) -> u32
     if b < a { a } else { b }
 }
 
-// How often, and the least and the most cycles until the routine's own return.
+// How often, the least and the most cycles until the routine's own return, and the lowest SP after it.
 pub struct Visits {
     pub times: u32,
     pub least: u32,
     pub most: u32,
+    pub lowest: u16,
 }
 
 impl Visits {
@@ -41,39 +46,43 @@ impl Visits {
         times: 0,
         least: 0,
         most: 0,
+        lowest: 0,
     };
 
     // One more.
-    pub fn with(self, go: Cycles) -> Visits
+    pub fn with(self, go: Cycles, sp: u16) -> Visits
         requires { ⌜ self .times < 4294967295 ⌝ }
-        ensures { λ r. ⌜ r ≡ visitedOf self (go .0) ⌝ }
+        ensures { λ r. ⌜ r ≡ visitedOf self (go .0) sp ⌝ }
     {
         if self.times == 0 {
             return Visits {
                 times: 1,
                 least: go.0,
                 most: go.0,
+                lowest: sp,
             };
         }
         Visits {
             times: self.times + 1,
             least: lesser(self.least, go.0),
             most: greater(self.most, go.0),
+            lowest: smaller(self.lowest, sp),
         }
     }
 }
 
 // Where it was never executed there is nothing more to say.
 fn with_visits(l: Line, v: Visits) -> Line
-    requires { ⌜ l .len + 50 ≤ 256 ⌝ }
-    ensures { λ r. ⌜ (written r ≡ written l ++ visitsText v) × (r .len ≤ l .len + 50) ⌝ }
+    requires { ⌜ l .len + 62 ≤ 256 ⌝ }
+    ensures { λ r. ⌜ (written r ≡ written l ++ visitsText v) × (r .len ≤ l .len + 62) ⌝ }
 {
     let a = with_field(l, b" times=", v.times);
     if v.times == 0 {
         return a;
     }
     let b = with_field(a, b" least=", v.least);
-    with_field(b, b" most=", v.most)
+    let c = with_field(b, b" most=", v.most);
+    with_word(c, b" lowest=", v.lowest)
 }
 
 fn line(address: u16, t: Listing, v: Visits, cost: Cycles) -> Line

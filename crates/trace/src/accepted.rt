@@ -1,6 +1,5 @@
 // A routine that is accepted: its instructions, and the line that ends the trace.
 use crate::options::Options;
-use crate::steps::Reached;
 use crate::steps::steps;
 use crate::steps::summary;
 use explain::refused;
@@ -21,9 +20,10 @@ use ticket::read;
 use verdict::Started;
 use verdict::start_routine;
 
-// The stack bytes used: from the stack window's last address, two above the start's SP, down to the lowest SP.
-fn used(r: Registers, s: Reached) -> StackBytes {
-    StackBytes(wrapping_sub(wrapping_add(r.sp, 2), s.lowest))
+// The stack bytes used: from the stack window's last address, two above the start's SP, down to the lowest SP that the
+// run answered.
+fn used(start: Registers, reached: Registers) -> StackBytes {
+    StackBytes(wrapping_sub(wrapping_add(start.sp, 2), reached.lowest))
 }
 
 fn home(t: Totals) {
@@ -38,18 +38,12 @@ fn spent(t: Totals) {
     write_all(STDOUT_FILENO, &line[0..n]);
 }
 
-fn walk(
-    t: Ticket,
-    r: Registers,
-    mem: [u8; 65536],
-    total: u32,
-    cost: Cycles,
-    summarised: bool,
-) -> Reached {
+fn walk(t: Ticket, r: Registers, mem: [u8; 65536], total: u32, cost: Cycles, summarised: bool) {
     if summarised {
-        return summary(t, r, mem, total, cost.0);
+        summary(t, r, mem, total, cost.0);
+    } else {
+        steps(t, r, mem, total, cost.0);
     }
-    steps(t, r, mem, total, cost.0)
 }
 
 // How far the budget goes is the run's own answer; the instructions up to there are then done one by one.
@@ -64,22 +58,24 @@ fn trace(
     let mut copy = mem;
     let budget = if o.limited { o.budget } else { cost.0 };
     match run(r, &mut copy, budget) {
-        Ran::Home(_, k) => {
-            let s = walk(t, r, mem, k.0, cost, o.summary);
+        Ran::Home(q, k) => {
+            walk(t, r, mem, k.0, cost, o.summary);
             home(Totals {
                 cycles: k,
                 allowed: cost,
-                stack: used(r, s),
+                stack: used(r, q),
                 certified,
+                lowest: q.lowest,
             });
         }
-        Ran::Spent(_, k) => {
-            let s = walk(t, r, mem, k.0, cost, o.summary);
+        Ran::Spent(q, k) => {
+            walk(t, r, mem, k.0, cost, o.summary);
             spent(Totals {
                 cycles: k,
                 allowed: Cycles(budget),
-                stack: used(r, s),
+                stack: used(r, q),
                 certified,
+                lowest: q.lowest,
             });
         }
         Ran::Refused(_, _, _) => {}

@@ -18,14 +18,13 @@ use text::summary::Visits;
 use text::summary::put_summary;
 use ticket::fields::Ticket;
 
-// The registers reached, the cycles spent and the lowest SP so far; of the last instruction, where its mark stands and
-// the cycles to go from it.
-pub struct Reached {
-    pub regs: Registers,
-    pub spent: u32,
-    pub lowest: u16,
-    pub mark: usize,
-    pub go: Cycles,
+// The registers reached and the cycles spent; of the last instruction, where its mark stands and the cycles to go from
+// it.
+struct Reached {
+    regs: Registers,
+    spent: u32,
+    mark: usize,
+    go: Cycles,
 }
 
 fn listing_at(mem: &[u8; 65536], a: u16) -> Listing {
@@ -37,10 +36,6 @@ fn listing_at(mem: &[u8; 65536], a: u16) -> Listing {
         byte_at(mem, wrapping_add(a, 3)),
         byte_at(mem, wrapping_add(a, 4)),
     )
-}
-
-fn lower(a: u16, b: u16) -> u16 {
-    if a < b { a } else { b }
 }
 
 // One instruction, with its line where lines are asked for. `limit` bounds the look ahead.
@@ -70,7 +65,6 @@ fn one(t: Ticket, s: Reached, mem: &mut [u8; 65536], limit: u32, shown: bool) ->
             Reached {
                 regs: after,
                 spent,
-                lowest: lower(s.lowest, after.sp),
                 mark,
                 go,
             }
@@ -88,14 +82,13 @@ fn start(r: Registers) -> Reached {
     Reached {
         regs: r,
         spent: 0,
-        lowest: r.sp,
         mark: 4096,
         go: Cycles(0),
     }
 }
 
 // From a start until `total` cycles are spent, with a line for each instruction.
-pub fn steps(t: Ticket, r: Registers, mem: [u8; 65536], total: u32, limit: u32) -> Reached {
+pub fn steps(t: Ticket, r: Registers, mem: [u8; 65536], total: u32, limit: u32) {
     let mut m = mem;
     let mut s = start(r);
     let mut i: u32 = 0;
@@ -106,24 +99,23 @@ pub fn steps(t: Ticket, r: Registers, mem: [u8; 65536], total: u32, limit: u32) 
         s = one(t, s, &mut m, limit, true);
         i += 1;
     }
-    s
 }
 
-// What is seen at the mark of an instruction.
-fn noted(visits: [Visits; 4096], mark: usize, go: Cycles) -> [Visits; 4096] {
+// What is seen at the mark of an instruction: the cycles to go from it and SP after it.
+fn noted(visits: [Visits; 4096], mark: usize, go: Cycles, sp: u16) -> [Visits; 4096] {
     let mut r = visits;
     if 4096 <= mark {
         return r;
     }
     let v = r[mark];
     if v.times < 4294967295 {
-        r[mark] = v.with(go);
+        r[mark] = v.with(go, sp);
     }
     r
 }
 
 // The same with a line for each mark at the end.
-pub fn summary(t: Ticket, r: Registers, mem: [u8; 65536], total: u32, limit: u32) -> Reached {
+pub fn summary(t: Ticket, r: Registers, mem: [u8; 65536], total: u32, limit: u32) {
     let mut m = mem;
     let mut s = start(r);
     let mut visits = [Visits::NONE; 4096];
@@ -134,12 +126,11 @@ pub fn summary(t: Ticket, r: Registers, mem: [u8; 65536], total: u32, limit: u32
         }
         s = one(t, s, &mut m, limit, false);
         let go = s.go;
-        let next = noted(visits, s.mark, go);
+        let next = noted(visits, s.mark, go, s.regs.sp);
         visits = next;
         i += 1;
     }
     addresses(t, &mem, visits);
-    s
 }
 
 // The marks in rising address. The memory is that of the start: no instruction of an accepted routine writes a code

@@ -20,7 +20,7 @@ module _
     {k : ℕ}
     (before : r ≡ registersIn s 6)
     (loaded : m ≡ memoryIn s)
-    (after : q ≡ registersIn s 29)
+    (after : q ≡ registersIn s 33)
     (cycles : k ≡ hexByteIn s 3)
   where
     pub answers : StepAgrees s → stepOf r m .answer ≡ done q (record { 0 = k })

@@ -1,4 +1,4 @@
--- Registers are equal where each of the seven is, and an answer is the one expected where its registers and its cycles
+-- Registers are equal where each of the eight is, and an answer is the one expected where its registers and its cycles
 -- are.
 -- Assumes nothing.
 use mathlib.Core.Path.{_≡_, refl, subst}
@@ -11,7 +11,7 @@ use Rattle.registers.specs.declared.Registers.{Registers}
 use Rattle.registers.specs.declared.Cycles.{Cycles}
 use Rattle.stepper.specs.Answer.{done, refused}
 
--- the registers up to each of the seven, in the order in which the code compares them
+-- the registers up to each of the eight, in the order in which the code compares them
 module _ (p q : Registers) where
   abbrev toB : Bool
   toB = eqb (p .a) (q .a) && eqb (p .b) (q .b)
@@ -28,24 +28,29 @@ module _ (p q : Registers) where
   abbrev toPc : Bool
   toPc = toSp && eqb (p .pc) (q .pc)
 
-  abbrev pub alike : Bool
-  alike = toPc && eqb (p .flags) (q .flags)
+  abbrev toLowest : Bool
+  toLowest = toPc && eqb (p .lowest) (q .lowest)
 
-abbrev made : (x y sp pc a b f : ℕ) → Registers
-made x y sp pc a b f = record { x = x; y = y; sp = sp; pc = pc; a = a; b = b; flags = f }
+  abbrev pub alike : Bool
+  alike = toLowest && eqb (p .flags) (q .flags)
+
+abbrev made : (x y sp pc lowest a b f : ℕ) → Registers
+made x y sp pc lowest a b f = record { x = x; y = y; sp = sp; pc = pc; lowest = lowest; a = a; b = b; flags = f }
 
 pub alike-same : (p q : Registers) → alike p q ≡ true → p ≡ q
 alike-same p q e =
-    let f = and-eq-true-iff (toPc p q) (eqb (p .flags) (q .flags)) .0 e in
-    let u = and-eq-true-iff (toSp p q) (eqb (p .pc) (q .pc)) .0 (f .0) in
+    let f = and-eq-true-iff (toLowest p q) (eqb (p .flags) (q .flags)) .0 e in
+    let l = and-eq-true-iff (toPc p q) (eqb (p .lowest) (q .lowest)) .0 (f .0) in
+    let u = and-eq-true-iff (toSp p q) (eqb (p .pc) (q .pc)) .0 (l .0) in
     let s = and-eq-true-iff (toY p q) (eqb (p .sp) (q .sp)) .0 (u .0) in
     let y = and-eq-true-iff (toX p q) (eqb (p .y) (q .y)) .0 (s .0) in
     let x = and-eq-true-iff (toB p q) (eqb (p .x) (q .x)) .0 (y .0) in
     let b = and-eq-true-iff (eqb (p .a) (q .a)) (eqb (p .b) (q .b)) .0 (x .0) in
-    let w : made (p .x) (p .y) (p .sp) (p .pc) (p .a) (p .b) (p .flags)
-    ≡ made (q .x) (q .y) (q .sp) (q .pc) (q .a) (q .b) (q .flags) =
+    let w : made (p .x) (p .y) (p .sp) (p .pc) (p .lowest) (p .a) (p .b) (p .flags)
+    ≡ made (q .x) (q .y) (q .sp) (q .pc) (q .lowest) (q .a) (q .b) (q .flags) =
     cc (
       eqb-true (p .flags) (q .flags) (f .1),
+      eqb-true (p .lowest) (q .lowest) (l .1),
       eqb-true (p .pc) (q .pc) (u .1),
       eqb-true (p .sp) (q .sp) (s .1),
       eqb-true (p .y) (q .y) (y .1),
@@ -65,6 +70,7 @@ alike-self p =
       eq-eqb (p .y) (p .y) refl,
       eq-eqb (p .sp) (p .sp) refl,
       eq-eqb (p .pc) (p .pc) refl,
+      eq-eqb (p .lowest) (p .lowest) refl,
       eq-eqb (p .flags) (p .flags) refl,
     )
 

@@ -22,5 +22,5 @@ unfolding storesIn
 no-store s m i = refl
 
 -- W, read after the bytes that N counts
-pub same-written : (s : List ℕ) {n w : ℕ} → n ≡ listedIn s → w ≡ hexByteIn s (55 + 7 * n) → w ≡ writtenIn s
-same-written s p q = q ∙ ap (λ (k : ℕ). hexByteIn s (55 + 7 * k)) p
+pub same-written : (s : List ℕ) {n w : ℕ} → n ≡ listedIn s → w ≡ hexByteIn s (63 + 7 * n) → w ≡ writtenIn s
+same-written s p q = q ∙ ap (λ (k : ℕ). hexByteIn s (63 + 7 * k)) p

@@ -23,7 +23,7 @@ hexByteIn s i = valueIn s i * 16 + valueIn s (i + 1)
 unfoldable pub hexWordIn : List ℕ → ℕ → ℕ
 hexWordIn s i = hexByteIn s i * 256 + hexByteIn s (i + 2)
 
--- 22 digits: A B X Y SP PC flags
+-- 26 digits: A B X Y SP PC flags lowest
 unfoldable pub registersIn : List ℕ → ℕ → Registers
 registersIn s i =
     record {
@@ -31,6 +31,7 @@ registersIn s i =
       y = hexWordIn s (i + 8);
       sp = hexWordIn s (i + 12);
       pc = hexWordIn s (i + 16);
+      lowest = hexWordIn s (i + 22);
       a = hexByteIn s i;
       b = hexByteIn s (i + 2);
       flags = hexByteIn s (i + 20);

@@ -9,22 +9,22 @@ use lib.Dec.{eqb, ltb}
 use lib.ListN.{length, getD}
 use Rattle.vectors.specs.Hex.{digitOf, hexByteIn}
 
--- K, C, N and W; the bytes listed start at 55, and W stands after them
+-- K, C, N and W; the bytes listed start at 63, and W stands after them
 abbrev pub kindIn : List ℕ → ℕ
 kindIn s = hexByteIn s 0
 
 abbrev pub listedIn : List ℕ → ℕ
-listedIn s = hexByteIn s 52
+listedIn s = hexByteIn s 60
 
 abbrev pub writtenIn : List ℕ → ℕ
-writtenIn s = hexByteIn s (55 + 7 * listedIn s)
+writtenIn s = hexByteIn s (63 + 7 * listedIn s)
 
 -- whether a space is due at a place of a line that lists n bytes: after K, C, BEFORE, AFTER and N, after each byte
 -- listed, and before each byte written
 unfoldable pub spaceDue : ℕ → ℕ → Bool
 spaceDue n i =
-    cond (ltb i 55) (eqb i 2 || (eqb i 5 || (eqb i 28 || (eqb i 51 || eqb i 54))))
-    (cond (ltb i (55 + 7 * n)) (eqb ((i - 55) % 7) 6) (eqb ((i - (55 + 7 * n)) % 7) 2))
+    cond (ltb i 63) (eqb i 2 || (eqb i 5 || (eqb i 32 || (eqb i 59 || eqb i 62))))
+    (cond (ltb i (63 + 7 * n)) (eqb ((i - 63) % 7) 6) (eqb ((i - (63 + 7 * n)) % 7) 2))
 
 -- whether a byte is the space or the digit that is due at its place
 unfoldable pub isDue : ℕ → ℕ → ℕ → Bool
@@ -42,5 +42,5 @@ pub record Shaped (s : List ℕ) : Type 0 where
   pub some : 1 ≤ listedIn s
   pub listed : listedIn s ≤ 16
   pub written : writtenIn s ≤ 9
-  pub long : length s ≡ 57 + 7 * listedIn s + 7 * writtenIn s
+  pub long : length s ≡ 65 + 7 * listedIn s + 7 * writtenIn s
   pub due : AllDue (listedIn s) s

@@ -25,11 +25,11 @@ background = replicate 65536 0x3c
 
 -- every byte is $3C but for those listed
 unfoldable pub memoryIn : List ℕ → List ℕ
-memoryIn s = applied (storesIn s 55 (listedIn s)) background
+memoryIn s = applied (storesIn s 63 (listedIn s)) background
 
 -- that, with the bytes written
 unfoldable pub expectedIn : List ℕ → List ℕ
-expectedIn s = applied (storesIn s (58 + 7 * listedIn s) (writtenIn s)) (memoryIn s)
+expectedIn s = applied (storesIn s (66 + 7 * listedIn s) (writtenIn s)) (memoryIn s)
 
 -- the place of the instruction at PC
 unfoldable pub opcodePlaceIn : List ℕ → ℕ
@@ -39,7 +39,7 @@ opcodePlaceIn s =
 
 -- the registers, the cycles and the memory that are expected
 unfoldable pub afterIn : List ℕ → After
-afterIn s = record { answer = done (registersIn s 29) (record { 0 = hexByteIn s 3 }); memory = expectedIn s }
+afterIn s = record { answer = done (registersIn s 33) (record { 0 = hexByteIn s 3 }); memory = expectedIn s }
 
 abbrev pub StepAgrees : List ℕ → Type 0
 StepAgrees s = stepOf (registersIn s 6) (memoryIn s) ≡ afterIn s

@@ -1,5 +1,5 @@
-// Whether a step comes to what a line says: every register, all eight flags, the cycles and all 65,536 bytes. An inner
-// module of `compared`, which has tested the line's shape.
+// Whether a step comes to what a line says: every register, all eight flags, the lowest SP, the cycles and all 65,536
+// bytes. An inner module of `compared`, which has tested the line's shape.
 ghost use mathlib.Core.Path.{_≡_};
 ghost use mathlib.Core.Logic.{_↔_};
 ghost use mathlib.Core.Bool.{true};
@@ -25,6 +25,7 @@ pub fn same_registers(p: Registers, q: Registers) -> bool
         & (p.y == q.y)
         & (p.sp == q.sp)
         & (p.pc == q.pc)
+        & (p.lowest == q.lowest)
         & (p.flags == q.flags)
 }
 
@@ -45,7 +46,7 @@ pub fn step_agrees(s: &[u8]) -> bool
 {
     let mut mem = memory_in(s);
     let a = step(registers_in(s, 6), &mut mem);
-    if !is_done(a, registers_in(s, 29), Cycles(hex_byte_in(s, 3) as u32)) {
+    if !is_done(a, registers_in(s, 33), Cycles(hex_byte_in(s, 3) as u32)) {
         return false;
     }
     let expected = expected_in(s);

@@ -47,7 +47,7 @@ pub fn hex_word_in(s: &[u8], i: usize) -> u16
 }
 
 pub fn registers_in(s: &[u8], i: usize) -> Registers
-    requires { ⌜ i + 21 < length (now s) ⌝ }
+    requires { ⌜ i + 25 < length (now s) ⌝ }
     ensures { λ r. ⌜ r ≡ registersIn (now (s .entry)) i ⌝ }
 {
     Registers {
@@ -55,6 +55,7 @@ pub fn registers_in(s: &[u8], i: usize) -> Registers
         y: hex_word_in(s, i + 8),
         sp: hex_word_in(s, i + 12),
         pc: hex_word_in(s, i + 16),
+        lowest: hex_word_in(s, i + 22),
         a: hex_byte_in(s, i),
         b: hex_byte_in(s, i + 2),
         flags: hex_byte_in(s, i + 20),

@@ -11,13 +11,13 @@ fn space_due(n: usize, i: usize) -> bool
     requires { ⌜ n ≤ 16 ⌝ }
     ensures { λ r. ⌜ r ≡ spaceDue n i ⌝ }
 {
-    if i < 55 {
-        return (i == 2) | ((i == 5) | ((i == 28) | ((i == 51) | (i == 54))));
+    if i < 63 {
+        return (i == 2) | ((i == 5) | ((i == 32) | ((i == 59) | (i == 62))));
     }
-    if i < 55 + 7 * n {
-        return (i - 55) % 7 == 6;
+    if i < 63 + 7 * n {
+        return (i - 63) % 7 == 6;
     }
-    (i - (55 + 7 * n)) % 7 == 2
+    (i - (63 + 7 * n)) % 7 == 2
 }
 
 fn is_due(n: usize, i: usize, c: u8) -> bool
@@ -50,27 +50,27 @@ fn all_due(s: &[u8], n: usize) -> bool
 pub fn shaped(s: &[u8]) -> bool
     ensures { λ r. ⌜ (r ≡ true) ↔ (Shaped (now (s .entry))) ⌝ }
 {
-    if s.len() < 64 {
+    if s.len() < 72 {
         return false;
     }
     if 3 < hex_byte_in(s, 0) {
         return false;
     }
-    let n = hex_byte_in(s, 52) as usize;
+    let n = hex_byte_in(s, 60) as usize;
     if n < 1 {
         return false;
     }
     if 16 < n {
         return false;
     }
-    if s.len() < 57 + 7 * n {
+    if s.len() < 65 + 7 * n {
         return false;
     }
-    let w = hex_byte_in(s, 55 + 7 * n) as usize;
+    let w = hex_byte_in(s, 63 + 7 * n) as usize;
     if 9 < w {
         return false;
     }
-    if s.len() != 57 + 7 * n + 7 * w {
+    if s.len() != 65 + 7 * n + 7 * w {
         return false;
     }
     all_due(s, n)

@@ -40,9 +40,9 @@ pub fn memory_in(s: &[u8]) -> [u8; 65536]
     requires { ⌜ Shaped (now s) ⌝ }
     ensures { λ r. ⌜ (r ≡ memoryIn (now (s .entry))) × (length r ≡ 65536) ⌝ }
 {
-    let n = hex_byte_in(s, 52) as usize;
+    let n = hex_byte_in(s, 60) as usize;
     let mut mem = background();
-    load(&mut mem, s, 55, n);
+    load(&mut mem, s, 63, n);
     mem
 }
 
@@ -51,10 +51,10 @@ pub fn expected_in(s: &[u8]) -> [u8; 65536]
     requires { ⌜ Shaped (now s) ⌝ }
     ensures { λ r. ⌜ (r ≡ expectedIn (now (s .entry))) × (length r ≡ 65536) ⌝ }
 {
-    let n = hex_byte_in(s, 52) as usize;
-    let w = hex_byte_in(s, 55 + 7 * n) as usize;
+    let n = hex_byte_in(s, 60) as usize;
+    let w = hex_byte_in(s, 63 + 7 * n) as usize;
     let mut mem = memory_in(s);
-    load(&mut mem, s, 58 + 7 * n, w);
+    load(&mut mem, s, 66 + 7 * n, w);
     mem
 }
 

@@ -82,7 +82,7 @@ pub fn difference(number: u32, s: &[u8])
 {
     let mut mem = memory_in(s);
     let expected = expected_in(s);
-    let q = registers_in(s, 29);
+    let q = registers_in(s, 33);
     let cycles = hex_byte_in(s, 3) as u32;
     let a = step(registers_in(s, 6), &mut mem);
     text(b"line ");

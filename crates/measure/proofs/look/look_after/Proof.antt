@@ -16,10 +16,9 @@ returns-2 c =
     simp (
       c .own-return .ensures,
       p .ensures .0,
-      c .before .before .before .before .lower .ensures,
-      le-ltb _ _ (c .before .before .before .before .before .if1 .left),
+      le-ltb _ _ (c .before .before .before .before .if1 .left),
     )
     (refl, rw (← p .ensures .0) (p .ensures .1), omega arith)
 
 pub look-after-spec : {M : Type 1} → statement M
-look-after-spec = tie.close (tie.spec (search needs) returns (search needs) (search needs) (search needs) returns-2)
+look-after-spec = tie.close (tie.spec (search needs) returns (search needs) (search needs) returns-2)

@@ -6,7 +6,7 @@ use Rattle.measure.proofs.look.measure.Tie as tie
 
 returns : tie.Need-returns
 returns c =
-    let l = c .before .before .before .before in
+    let l = c .before .before .before .before .before in
     simp (
       c .wrapping-sub3 .ensures,
       c .before .wrapping-sub2 .ensures,

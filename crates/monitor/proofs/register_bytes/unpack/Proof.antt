@@ -20,4 +20,5 @@ unpack-spec =
     (search needs)
     (search needs)
     (search needs)
+    (search needs)
     returns)

@@ -1,12 +1,14 @@
--- `run_until` meets its contract. The invariant of its loop: memory is as long as it was, PC fits 16 bits, and the run
--- from here with the budget left
--- comes to what the run from the call does. The measure is the budget left, which each instruction lessens.
+-- `run_until` meets its contract. The invariant of its loop: memory is as long as it was, and the run from here with
+-- the budget left, on the registers with the lowest SP that is kept beside them, comes to what the run from the call
+-- does. The measure is the budget left, which each instruction lessens.
 -- Assumes nothing.
 use borrow.Author.Needs.{needs}
-use mathlib.Core.Path.{_≡_, refl, sym, _∙_}
+use mathlib.Core.Path.{_≡_, refl, sym, ap, _∙_}
 use native.Mathlib.Omega.{arith}
 use lib.ListN.{length}
 use Prim.Native.Nat.{_<_, _%_}
+use Rattle.registers.specs.Registers.{withLowest}
+use Rattle.registers.specs.declared.Registers.{Registers}
 use Rattle.opcodes.proofs.Says.{in-tables}
 use Rattle.stepper.specs.Step.{stepOf}
 use Rattle.stepper.specs.inner.Until.{afterDone}
@@ -18,18 +20,18 @@ use Rattle.stepper.proofs.until.run_until.Statement.{statement}
 use Rattle.stepper.proofs.until.run_until.Tie as tie
 
 abbrev Inv-loop : tie.InvT-loop
-Inv-loop mem₀ budget last tc ta tm q₀ left₀ mem q left =
-    (length mem ≡ length mem₀) × (q .pc < 65536) × CameTo last budget q₀ mem₀ left q mem
+Inv-loop mem₀ budget last tc ta tm q₀ lowest₀ left₀ mem q lowest left =
+    (length mem ≡ length mem₀) × CameTo last budget q₀ mem₀ left (withLowest q lowest) mem
 
 abbrev μ-loop : tie.MeasureT-loop
-μ-loop mem₀ budget last tc ta tm q₀ left₀ mem q left = left
+μ-loop mem₀ budget last tc ta tm q₀ lowest₀ left₀ mem q lowest left = left
 
--- from a point of the loop back to the call, to the turn's begin, to the place that was found, and past the budget's
--- test to that of the number
+-- from a point of the loop back to the call; to the turn's registers; to the place that was found; past the budget's
+-- test to that of the number; and to the instruction that was executed
 abbrev called : tie.At-loop Inv-loop μ-loop → tie.Start Inv-loop μ-loop
 called c = c .before .before .before .before .before
 
-abbrev turn : tie.After-place Inv-loop μ-loop → tie.At-loop Inv-loop μ-loop
+abbrev turn : tie.After-place Inv-loop μ-loop → tie.After-with-lowest Inv-loop μ-loop
 turn c = c .before .before .before .before .before
 
 abbrev placed : tie.After-waits Inv-loop μ-loop → tie.After-place Inv-loop μ-loop
@@ -41,85 +43,104 @@ passed c = c .before .before .before .before .before .before .before
 abbrev waited : tie.After-execute Inv-loop μ-loop → tie.After-waits Inv-loop μ-loop
 waited c = passed c .before .before
 
+abbrev ran : tie.After-smaller Inv-loop μ-loop → tie.After-execute Inv-loop μ-loop
+ran c = c .before .before .before
+
 whole : (c : tie.At-loop Inv-loop μ-loop) → length (c .loop .mem) ≡ 65536
 whole c = c .loop .inv .0 ∙ called c .pre
 
+-- the invariant, of the turn's registers
+came : (c : tie.After-with-lowest Inv-loop μ-loop)
+    → let l = c .before .loop in let z = called (c .before) .args in
+    CameTo (z .last) (z .budget) (z .r) (z .mem .now) (l .left) (c .with-lowest .result) (l .mem)
+came c = rw (c .with-lowest .ensures) (c .before .loop .inv .1)
+
 here : (c : tie.After-place Inv-loop μ-loop)
-    → let l = turn c .loop in let g = c .place .given .0 in Here (l .q) (l .mem) (g .0) (g .1 .0) (g .1 .1 .0)
+    → let g = c .place .given .0 in
+    Here (turn c .with-lowest .result) (turn c .before .loop .mem) (g .0) (g .1 .0) (g .1 .1 .0)
 here c =
     record {
-      whole = whole (turn c);
-      low = turn c .loop .inv .1;
+      whole = whole (turn c .before);
+      low = omega arith;
       found = sym (c .before .before .find .ensures) ∙ c .place .given .1;
     }
 
--- the turn's step, from what `execute` ensures
-executed : (c : tie.After-execute Inv-loop μ-loop)
-    → let l = turn (placed (waited c)) .loop in let e = placed (waited c) .place .given .0 .1 .1 .0 in
-    stepOf (l .q) (l .mem) ≡ afterDone (c .execute .result) (e % 256) (c .execute .last .1 .1 .1 .1 .0)
-executed c =
-    let w = waited c in
+-- the turn's step, from what `execute` and `smaller` ensure
+stepped : (c : tie.After-smaller Inv-loop μ-loop)
+    → let t = turn (placed (waited (ran c))) in let e = placed (waited (ran c)) .place .given .0 .1 .1 .0 in
+    stepOf (t .with-lowest .result) (t .before .loop .mem)
+    ≡ afterDone (withLowest (ran c .execute .result) (c .smaller .result)) (e % 256)
+    (ran c .execute .last .1 .1 .1 .1 .0)
+stepped c =
+    let x = ran c in
+    let w = waited x in
     let n = w .before .number-at in
-    let k = c .before .before .before .before .before .mode-number-at in
-    executes (here (placed w)) (n .result) (n .ensures) (w .waits .ensures) (passed c .before .if1 .left)
-    (k .result) (k .ensures) (c .before .before .before .before .wrapping-add .ensures)
-    (c .before .before .before .wrapping-add2 .ensures)
-    (c .before .before .with-pc .ensures) (c .execute .ensures)
+    let k = x .before .before .before .before .before .mode-number-at in
+    executes (here (placed w)) (n .result) (n .ensures) (w .waits .ensures) (passed x .before .if1 .left)
+    (k .result) (k .ensures) (x .before .before .before .before .wrapping-add .ensures)
+    (x .before .before .before .wrapping-add2 .ensures)
+    (x .before .before .with-pc .ensures) (x .execute .ensures)
+    (ap (λ (r : Registers). r .lowest) (turn (placed w) .with-lowest .ensures)) (c .smaller .ensures)
+
+pc-word : (c : tie.After-execute Inv-loop μ-loop) → c .execute .result .pc < 65536
+pc-word c = omega arith
 
 loop-holds : tie.Need-loop-holds Inv-loop μ-loop
 loop-holds c =
-    let z =
-    c .before .before .before .before .args in (refl, omega arith, begun (z .last) (z .budget) (z .r) (z .mem .now))
+    let z = c .before .before .before .before .args in (refl, begun (z .last) (z .budget) (z .r) (z .mem .now))
 
 find-requires : tie.Need-find-requires Inv-loop μ-loop
-find-requires c κs = (whole (c .before .before), c .before .before .before .before .before .costs .ensures)
+find-requires c κs =
+    (whole (c .before .before .before), c .before .before .before .before .before .before .costs .ensures)
 
-sub-t22 : tie.Need-sub-t22 Inv-loop μ-loop
-sub-t22 c = c .before .before .before .before .before .loop .inv .2 .within
+sub-t24 : tie.Need-sub-t24 Inv-loop μ-loop
+sub-t24 c = came (c .before .before .before .before .before) .within
 
 same-length : tie.Need-same-length Inv-loop μ-loop
-same-length c = c .before .before .before .before .before .loop .inv .0
+same-length c = c .before .before .before .before .before .before .loop .inv .0
 
 returns : tie.Need-returns Inv-loop μ-loop
 returns c =
-    let l = c .before .before .before .before .before .loop in
+    let t = c .before .before .before .before .before in
     let nothing = sym (c .before .before .find .ensures) ∙ c .enum-told .given .1 in
-    told (stopped (l .inv .2) (nowhere (l .q) (l .mem) (whole (c .before .before .before .before .before)) (l .inv .1)
+    told (stopped (came t) (nowhere (t .with-lowest .result) (t .before .loop .mem) (whole (t .before)) (omega arith)
     nothing))
 
 number-at-requires : tie.Need-number-at-requires Inv-loop μ-loop
 number-at-requires c κs =
-    (in-tables _ _ (here (c .before .before) .found), turn (c .before .before) .before .before .actions .ensures)
+    let p = c .before .before in
+    (in-tables _ _ (here p .found), turn p .before .before .before .actions .ensures)
 
-sub-t26 : tie.Need-sub-t26 Inv-loop μ-loop
-sub-t26 c = turn (placed (c .before)) .loop .inv .2 .within
+sub-t28 : tie.Need-sub-t28 Inv-loop μ-loop
+sub-t28 c = came (turn (placed (c .before))) .within
 
 same-length-2 : tie.Need-same-length-2 Inv-loop μ-loop
-same-length-2 c = turn (placed (c .before)) .loop .inv .0
+same-length-2 c = turn (placed (c .before)) .before .loop .inv .0
 
 returns-2 : tie.Need-returns-2 Inv-loop μ-loop
 returns-2 c =
     let w = c .before in
     let n = w .before .number-at in
-    told (stopped (turn (placed w) .loop .inv .2) (waiting (here (placed w)) (n .result) (n .ensures)
-    (w .waits .ensures) (c .if1 .taken)))
+    told (stopped (came (turn (placed w))) (waiting (here (placed w)) (n .result) (n .ensures) (w .waits .ensures)
+    (c .if1 .taken)))
 
-sub-t29 : tie.Need-sub-t29 Inv-loop μ-loop
-sub-t29 c = turn (placed (c .before .before)) .loop .inv .2 .within
+sub-t31 : tie.Need-sub-t31 Inv-loop μ-loop
+sub-t31 c = came (turn (placed (c .before .before))) .within
 
 same-length-3 : tie.Need-same-length-3 Inv-loop μ-loop
-same-length-3 c = turn (placed (c .before .before)) .loop .inv .0
+same-length-3 c = turn (placed (c .before .before)) .before .loop .inv .0
 
 returns-3 : tie.Need-returns-3 Inv-loop μ-loop
 returns-3 c =
     let w = c .before .before in
     let n = w .before .number-at in
     let d = done-here (here (placed w)) (n .result) (n .ensures) (w .waits .ensures) (c .before .if1 .left) in
-    told (uncovered (turn (placed w) .loop .inv .2) d (c .if2 .taken))
+    told (uncovered (came (turn (placed w))) d (c .if2 .taken))
 
 mode-number-at-requires : tie.Need-mode-number-at-requires Inv-loop μ-loop
 mode-number-at-requires c κs =
-    let p = placed (c .before .before .before) in (in-tables _ _ (here p .found), turn p .before .modes .ensures)
+    let p = placed (c .before .before .before) in
+    (in-tables _ _ (here p .found), turn p .before .before .modes .ensures)
 
 cast-wrapping-add : tie.Need-cast-wrapping-add Inv-loop μ-loop
 cast-wrapping-add c = omega (arith, length-word (here (placed (c .before .before .before .before .before))))
@@ -130,7 +151,7 @@ execute-requires c κs =
     let n = w .before .number-at in
     let k = c .before .before .before .before .mode-number-at in
     let p = placed w in (
-      whole (turn p),
+      whole (turn p .before),
       (
         executable (n .result) (w .waits .ensures)
             (c .before .before .before .before .before .before .before .if1 .left),
@@ -138,32 +159,35 @@ execute-requires c κs =
       ),
     )
 
-sub-t40 : tie.Need-sub-t40 Inv-loop μ-loop
-sub-t40 c =
-    let i = turn (placed (waited (c .before .before .before .before))) .loop .inv .2 in omega (arith, i .within)
+sub-t43 : tie.Need-sub-t43 Inv-loop μ-loop
+sub-t43 c =
+    let i = came (turn (placed (waited (ran (c .before .before .before))))) in omega (arith, i .within)
 
 same-length-4 : tie.Need-same-length-4 Inv-loop μ-loop
 same-length-4 c =
-    let x =
-    c .before .before .before .before in x .execute .kept .1 .1 .1 .1 .0 ∙ turn (placed (waited x)) .loop .inv .0
+    let x = ran (c .before .before .before) in
+    x .execute .kept .1 .1 .1 .1 .0 ∙ turn (placed (waited x)) .before .loop .inv .0
 
 returns-4 : tie.Need-returns-4 Inv-loop μ-loop
 returns-4 c =
-    let x = c .before .before .before .before in
-    told (finished (turn (placed (waited x)) .loop .inv .2) (executed x) (passed x .if2 .left) (c .if3 .taken))
+    let s = c .before .before .before in
+    let x = ran s in
+    rw (c .with-lowest2 .ensures)
+    (told (finished (came (turn (placed (waited x)))) (stepped s) (passed x .if2 .left) (c .before .if3 .taken)))
 
 loop-less : tie.Need-loop-less Inv-loop μ-loop
 loop-less c =
-    let x = c .before .before .before .before in
-    omega (arith, cost (turn (placed (waited x)) .loop .inv .2) (executed x), passed x .if2 .left)
+    let s = c .before .before in
+    let x = ran s in
+    omega (arith, cost (came (turn (placed (waited x)))) (stepped s), passed x .if2 .left)
 
 loop-again : tie.Need-loop-again Inv-loop μ-loop
 loop-again c =
-    let x = c .before .before .before .before in
-    let l = turn (placed (waited x)) .loop in (
-      x .execute .kept .1 .1 .1 .1 .0 ∙ l .inv .0,
-      omega arith,
-      again (l .inv .2) (executed x) (passed x .if2 .left) (omega arith) (c .if3 .left),
+    let s = c .before .before in
+    let x = ran s in
+    let t = turn (placed (waited x)) in (
+      x .execute .kept .1 .1 .1 .1 .0 ∙ t .before .loop .inv .0,
+      again (came t) (stepped s) (passed x .if2 .left) (pc-word x) (c .if3 .left),
     )
 
 pub run-until-spec : {M : Type 1} → statement M
@@ -176,18 +200,19 @@ run-until-spec =
     (search needs)
     (search needs)
     loop-holds
+    (search needs)
     find-requires
     (search needs)
-    sub-t22
+    sub-t24
     same-length
     returns
     (search needs)
     number-at-requires
     (search needs)
-    sub-t26
+    sub-t28
     same-length-2
     returns-2
-    sub-t29
+    sub-t31
     same-length-3
     returns-3
     mode-number-at-requires
@@ -196,7 +221,9 @@ run-until-spec =
     (search needs)
     (search needs)
     execute-requires
-    sub-t40
+    (search needs)
+    (search needs)
+    sub-t43
     same-length-4
     returns-4
     loop-less

@@ -10,11 +10,12 @@ use Rattle.text.proofs.last.line.Tie as tie
 returns : tie.Need-returns
 unfolding totalsText
 returns c =
-    let a = c .before .before .before .before .before .before .with-pair .ensures in
-    let s = c .before .before .with-pair2 .ensures in
-    let e = c .before .before .before .before .before .before .before .empty .ensures in (
-      simp (c .with-text .ensures .0, s .0, a .0, e .0, append-assoc),
-      omega (arith, c .with-text .ensures .1, s .1, a .1, e .1),
+    let l = c .before .before .with-word .ensures in
+    let s = c .before .before .before .before .with-pair2 .ensures in
+    let a = c .before .before .before .before .before .before .before .before .with-pair .ensures in
+    let e = c .before .before .before .before .before .before .before .before .before .empty .ensures in (
+      simp (c .with-text .ensures .0, l .0, s .0, a .0, e .0, append-assoc),
+      omega (arith, c .with-text .ensures .1, l .1, s .1, a .1, e .1),
     )
 
 pub line-spec : {M : Type 1} → statement M
@@ -25,6 +26,8 @@ line-spec =
     (λ c κs. search needs)
     (λ c. search needs)
     (λ c. search needs)
+    (λ c. search needs)
+    (λ c κs. search needs)
     (λ c. search needs)
     (λ c κs. search needs)
     (λ c. search needs)

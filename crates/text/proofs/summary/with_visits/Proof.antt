@@ -20,11 +20,13 @@ returns c =
 returns-2 : tie.Need-returns-2
 unfolding visitsText
 returns-2 c =
-    let f = c .before .before .before .before .before .before .with-field .ensures in
-    let g = c .before .before .with-field2 .ensures in
-    let h = c .with-field3 .ensures in (
-      simp (h .0, g .0, f .0, ne-eqb _ _ (c .before .before .before .before .if1 .left), append-assoc),
-      omega (arith, f .1, g .1, h .1),
+    let n = c .before .before .before .before .before .before in
+    let f = n .before .before .with-field .ensures in
+    let g = c .before .before .before .before .with-field2 .ensures in
+    let h = c .before .before .with-field3 .ensures in
+    let l = c .with-word .ensures in (
+      simp (l .0, h .0, g .0, f .0, ne-eqb _ _ (n .if1 .left), append-assoc),
+      omega (arith, f .1, g .1, h .1, l .1),
     )
 
 pub with-visits-spec : {M : Type 1} → statement M
@@ -34,6 +36,8 @@ with-visits-spec =
     (λ c. search needs)
     (λ c κs. search needs)
     returns
+    (λ c. search needs)
+    (λ c κs. search needs)
     (λ c. search needs)
     (λ c κs. search needs)
     (λ c. search needs)

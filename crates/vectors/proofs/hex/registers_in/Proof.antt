@@ -12,16 +12,19 @@ returns c =
       c .hex-byte-in3 .ensures,
       c .before .hex-byte-in2 .ensures,
       c .before .before .hex-byte-in .ensures,
-      c .before .before .before .hex-word-in4 .ensures,
-      c .before .before .before .before .hex-word-in3 .ensures,
-      c .before .before .before .before .before .hex-word-in2 .ensures,
-      c .before .before .before .before .before .before .hex-word-in .ensures,
+      c .before .before .before .hex-word-in5 .ensures,
+      c .before .before .before .before .hex-word-in4 .ensures,
+      c .before .before .before .before .before .hex-word-in3 .ensures,
+      c .before .before .before .before .before .before .hex-word-in2 .ensures,
+      c .before .before .before .before .before .before .before .hex-word-in .ensures,
     )
 
 pub registers-in-spec : {M : Type 1} → statement M
 registers-in-spec =
     tie.close
     (tie.spec
+    (search needs)
+    (search needs)
     (search needs)
     (search needs)
     (search needs)

@@ -9,7 +9,13 @@ returns : tie.Need-returns
 returns c = simp (eq-eqb _ _ (c .if1 .taken))
 
 returns-2 : tie.Need-returns-2
-returns-2 c = simp (c .greater .ensures, c .before .lesser .ensures, ne-eqb _ _ (c .before .before .before .if1 .left))
+returns-2 c =
+    simp (
+      c .smaller .ensures,
+      c .before .greater .ensures,
+      c .before .before .lesser .ensures,
+      ne-eqb _ _ (c .before .before .before .before .if1 .left),
+    )
 
 pub with-spec : {M : Type 1} → statement M
 with-spec =
@@ -17,6 +23,7 @@ with-spec =
     (tie.spec
     returns
     (λ c. search needs)
+    (λ c κs. search needs)
     (λ c κs. search needs)
     (λ c κs. search needs)
     returns-2)
