@@ -64,7 +64,8 @@ ranHome q n k = record { answer = home q (record { 0 = k }); memory = n }
 abbrev pub ranSpent : Registers → List ℕ → ℕ → AfterRun
 ranSpent q n k = record { answer = spent q (record { 0 = k }); memory = n }
 
--- where the budget b does not cover a trace: the run goes along it as far as the budget does
+-- where the budget b does not cover a trace: the run goes along it as far as the budget does, and the lowest SP is the
+-- least so far, the start's among them
 pub record Stops (r : Registers) (m : List ℕ) (events : List Event) (b : ℕ) : Type 0 where
   pub before : List Event
   pub next : Event
