@@ -3,8 +3,8 @@
 
 A field's expected value is what both answer, or what one answers where the other's is left out (faults.py), or the
 manual's where both are. Any other disagreement is an error that is shown. Each vector's first number says which
-simulators gave its whole expected answer: 1 GNU, 2 MAME, 3 both, 0 none (the fields come from different sources). The
-vector's format is in docs/SIMULATORS.md.
+simulators gave its whole expected answer but for the lowest SP: 1 GNU, 2 MAME, 3 both, 0 none (the fields come from
+different sources). The vector's format is in docs/SIMULATORS.md.
 
 No simulator has the lowest SP. The one handed in is chosen here (handed_in), and the one expected is the smaller of it
 and the expected SP, by document 02's rule in b.

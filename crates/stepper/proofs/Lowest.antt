@@ -1,5 +1,5 @@
 -- The lowest SP: every instruction that is done keeps the smaller of the one handed in and SP afterwards; so after a
--- trace it is the least of the one handed in and SP after each instruction, and that is the least in every sense.
+-- trace it is the least of the one handed in and SP after each instruction.
 -- Assumes nothing.
 use mathlib.Core.Path.{_≡_, refl, ap, subst, _∙_}
 use mathlib.Core.Bool.{Bool, true, false, cond}
@@ -71,7 +71,7 @@ below-smaller v a b = by (ltb a b) refl
     by true e = (λ l. (l, omega (arith, ltb-true a b e)), λ p. p .0)
     by false e = (λ l. (omega (arith, ltb-false a b e), l), λ p. p .1)
 
--- what is below `leastSp` is below s and below every SP, and nothing else is: it is the least of them
+-- what is not above `leastSp` is not above s and not above any SP, and nothing else is: it is the least of them
 pub least-of-all : (v s : ℕ) (evs : List Event) → (v ≤ leastSp s evs) ↔ ((v ≤ s) × NoneBelow v evs)
 least-of-all v s [] = (λ l. (l, tt), λ p. p .0)
 least-of-all v s (ev ∷ evs) =
