@@ -1,13 +1,10 @@
 -- From one step to the whole way: the cycles that are left fall with each.
 -- Assumes nothing.
-use Prim.Native.Nat.{ℕ, zero, suc, _≤_}
+use Prim.Native.Nat.{ℕ, zero, suc, _+_, _-_, _≤_}
 use mathlib.Core.Path.{_≡_}
 use mathlib.Core.Logic.{_⊎_, inl, inr}
-use mathlib.Core.Bool.{Bool, true, false, cond}
 use mathlib.Core.List.{List, [], _∷_}
 use native.Mathlib.Omega.{arith}
-use lib.Dec.{ltb}
-use Rattle.registers.specs.Word.{smallerOf}
 use Rattle.registers.specs.declared.Registers.{Registers}
 use Rattle.memory.specs.Memory.{applied}
 use Rattle.ticket.specs.Fields.{Fields}
@@ -16,7 +13,7 @@ use Rattle.stepper.specs.Flow.{flowOf}
 use Rattle.stepper.specs.Trace.{Event, eventAt, total, Along, stay, then}
 use Rattle.rules.specs.InUse.{inUseAfter}
 use Rattle.rules.specs.Claim.{topOf, WithinNeed, Keeps, Safe}
-use Rattle.stepper.proofs.Lowest.{done-lowest}
+use Rattle.stepper.proofs.Lowest.{done-lowest, below-smaller}
 use Rattle.rules.proofs.Obeys.{busy}
 use Rattle.rules.proofs.Ready.{Ready, Arrived, Stepped, under-top, free, not-home, one-step}
 
@@ -30,14 +27,6 @@ pub record Course (f : Fields) (need : ℕ) (r : Registers) (m : List ℕ) (used
   pub in-time : total events ≤ p
   pub empty : last .sp ≡ topOf f
   pub safe : Safe f need used events
-
--- the smaller of two numbers is one of them
-one-of-two : (P : ℕ → Type 0) (a b : ℕ) → P a → P b → P (smallerOf a b)
-one-of-two P a b x y = by (ltb a b)
-  where
-    by : (c : Bool) → P (cond c a b)
-    by true = x
-    by false = y
 
 module _ {f : Fields} {image : List ℕ} (A : Accepted f image) where
   abbrev Near : ℕ → Type 0
@@ -67,8 +56,11 @@ module _ {f : Fields} {image : List ℕ} (A : Accepted f image) where
 
     lowered : Near (S .registers .sp) → Near (S .registers .lowest)
     lowered near =
+        let bound = topOf f - (2 + A .start .need .0) in
+        let kept : bound ≤ S .registers .lowest =
         rw (done-lowest r (S .registers) m (S .stores) (S .cycles) (S .done))
-        (one-of-two Near (S .registers .sp) (r .lowest) near low)
+        (below-smaller bound (S .registers .sp) (r .lowest) .1 (omega (arith, near), omega (arith, low))) in
+        omega (arith, kept)
 
     next : (Next (Ready A) → Near (S .registers .lowest) → Next (Course f (A .start .need .0)))
         → Arrived f (S .registers) ⊎ Next (Ready A) → Course f (A .start .need .0) r m used p

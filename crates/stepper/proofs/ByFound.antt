@@ -84,11 +84,8 @@ module _ {r : Registers} {m : List ℕ} {p s e : ℕ} (h : Here r m p s e) where
   unfolding stepOf didOf carriedOut
   held t = simp (eq-eqb _ _ (h .whole), place r m (h .low), says .0, decoded, says .2, t)
 
-  -- the registers that the step hands on, where the instruction leaves q
-  abbrev lowered : Registers → Registers
-  lowered q = loweredFrom r q
-
-  carried : waitsHere ≡ false → stepOf r m ≡ afterDone (lowered (effect .regs)) (e % 256) (applied (effect .stores) m)
+  carried : waitsHere ≡ false
+      → stepOf r m ≡ afterDone (loweredFrom r (effect .regs)) (e % 256) (applied (effect .stores) m)
   unfolding stepOf didOf carriedOut effect
   carried t = simp (eq-eqb _ _ (h .whole), place r m (h .low), says .0, decoded, says .2, t)
 
@@ -101,7 +98,7 @@ module _ {r : Registers} {m : List ℕ} {p s e : ℕ} (h : Here r m p s e) where
     waiting t = held (waits-here ∙ t)
 
     pub done-here : b ≡ false
-        → stepOf r m ≡ afterDone (lowered (effect .regs)) (e % 256) (applied (effect .stores) m)
+        → stepOf r m ≡ afterDone (loweredFrom r (effect .regs)) (e % 256) (applied (effect .stores) m)
     done-here t = carried (waits-here ∙ t)
 
     -- k is a number of the mode, and the code executes the two from these registers v; the lowest SP, which it keeps
@@ -114,9 +111,10 @@ module _ {r : Registers} {m : List ℕ} {p s e : ℕ} (h : Here r m p s e) where
     unfolding effect
     executes t k mode {from} {next} {v} {q} {m′} {low} {low′} ef en ev x before after =
         let y : Executed effect q m m′ = rw (action, mode, ef, ev, en) at x in
-        let same : lowered q ≡ withLowest q low′ = rw (before, after) in
-        done-here t ∙ ap (λ (z : Registers). afterDone (lowered z) (e % 256) (applied (effect .stores) m)) (sym (y .0))
-        ∙ ap (λ (z : List ℕ). afterDone (lowered q) (e % 256) z) (sym (y .1))
+        let same : loweredFrom r q ≡ withLowest q low′ = rw (before, after) in
+        done-here t
+        ∙ ap (λ (z : Registers). afterDone (loweredFrom r z) (e % 256) (applied (effect .stores) m)) (sym (y .0))
+        ∙ ap (λ (z : List ℕ). afterDone (loweredFrom r q) (e % 256) z) (sym (y .1))
         ∙ ap (λ (z : Registers). afterDone z (e % 256) m′) same
 
 pub fit : (p n k : ℕ) → actionOf n ≡ actionAt p → modeOf k ≡ modeAt p → fits (actionOf n) (modeOf k) ≡ true

@@ -64,7 +64,8 @@ abbrev pub NoneBelow : ℕ → List Event → Type 0
 NoneBelow v [] = Unit
 NoneBelow v (ev ∷ evs) = (v ≤ ev .sp) × NoneBelow v evs
 
-below-smaller : (v a b : ℕ) → (v ≤ smallerOf a b) ↔ ((v ≤ a) × (v ≤ b))
+-- what is not above the smaller of two is not above both
+pub below-smaller : (v a b : ℕ) → (v ≤ smallerOf a b) ↔ ((v ≤ a) × (v ≤ b))
 below-smaller v a b = by (ltb a b) refl
   where
     by : (c : Bool) → ltb a b ≡ c → (v ≤ cond c a b) ↔ ((v ≤ a) × (v ≤ b))

@@ -1,4 +1,4 @@
--- `start` meets its contract: SP is `down`'s answer, the rest as given.
+-- `start` meets its contract: SP and the lowest SP are `wrapping_sub`'s answer, the rest as given.
 -- Assumes nothing.
 use borrow.Author.Needs.{needs}
 use Rattle.registers.proofs.Registers.start.Statement.{statement}

@@ -1,4 +1,4 @@
--- `up` meets its contract: the standard library's wrapping sum is `plus`.
+-- `wrapping_add` meets its contract: the standard library's wrapping sum is `wrappingAdd`.
 -- Assumes nothing.
 use borrow.Author.Needs.{needs}
 use Rattle.registers.specs.Word.{wrappingAdd}

@@ -1,4 +1,4 @@
--- `down` meets its contract: the standard library's wrapping difference is `less`.
+-- `wrapping_sub` meets its contract: the standard library's wrapping difference is `wrappingSub`.
 -- Assumes nothing.
 use borrow.Author.Needs.{needs}
 use Rattle.registers.specs.Word.{wrappingSub}
