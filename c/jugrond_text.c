@@ -60,6 +60,14 @@ const char *jugrond_text(uint32_t outcome)
         return "the instruction at PC is WAI, STOP or TEST";
     case JUGROND_OUTPUT_TOO_SMALL:
         return "the output is too small";
+    case JUGROND_BAD_RECORD:
+        return "the line is malformed: no S0, S1, S5 or S9 with a count from 3 on, exactly the digits that it says "
+               "and a line feed; an S5 or S9 with data; an S5 that does not count the S1 lines before it; a line "
+               "after S9; or S9 is missing";
+    case JUGROND_BAD_CHECKSUM:
+        return "the line's checksum is wrong";
+    case JUGROND_BAD_ADDRESS:
+        return "a byte is outside the code window, given twice or never given";
     case JUGROND_SPENT:
         return "the budget does not cover the next instruction";
     default:

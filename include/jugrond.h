@@ -29,8 +29,8 @@ extern "C" {
  * 10000 * major + 100 * minor + patch. docs/CHANGELOG.md says what each version changes. Major rises where a caller
  * has to change something, minor where something is added.
  */
-#define JUGROND_VERSION "2.0.0"
-#define JUGROND_VERSION_NUMBER 20000
+#define JUGROND_VERSION "2.1.0"
+#define JUGROND_VERSION_NUMBER 20100
 
 #define JUGROND_REGISTER_BYTES 13
 #define JUGROND_MEMORY_BYTES 65536
@@ -73,7 +73,7 @@ extern "C" {
 #define JUGROND_HOST_STACK_TICK_BYTES 32768
 
 /*
- * Outcomes. Those from 1 to 24 are the numbers of refusals, with their place in *place: docs/REFUSALS.md has for each
+ * Outcomes. Those from 1 to 27 are the numbers of refusals, with their place in *place: docs/REFUSALS.md has for each
  * its place and what to do, and jugrond_text.h a line of text.
  */
 #define JUGROND_DONE 0     /* a reset or a step was done */
@@ -116,6 +116,14 @@ extern "C" {
 
 /* The writer of tickets, which no call of this header is. */
 #define JUGROND_OUTPUT_TOO_SMALL 24 /* the place is the bytes needed */
+
+/*
+ * An image that comes as an S-record file, which no call of this header takes: the programs at the desk, and a call in
+ * Rattle, answer these. The place is the line, from 1.
+ */
+#define JUGROND_BAD_RECORD 25   /* a malformed line, one after S9, or no S9: one line after the last */
+#define JUGROND_BAD_CHECKSUM 26 /* a wrong checksum */
+#define JUGROND_BAD_ADDRESS 27  /* a byte outside the code window or given twice; place 0: one never given */
 
 /*
  * Writes the reset value: all zero, flags $D0. A lowest SP of 0 stays 0 until a start, or the caller, sets it.

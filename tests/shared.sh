@@ -1,4 +1,4 @@
-# What the tests in shell share: a comparison that is counted, bytes put into a file, GNU's assembler. To be sourced.
+# What the tests in shell share: a comparison that is counted, bytes put into a file, tools of Debian's. To be sourced.
 # shellcheck shell=sh
 passed=0 failed=0
 
@@ -22,14 +22,17 @@ patched() { # FILE OFFSET BYTES, in octal
     printf "$3" | dd of="$1" bs=1 seek="$2" conv=notrunc status=none
 }
 
-# Whether GNU's assembler for the 68HC11 can be had; it is installed where it is missing.
-assembler() {
-    command -v m68hc11-as >/dev/null && return
+# Whether a command can be had; Debian's package with it is installed where it is missing.
+had() { # COMMAND PACKAGE
+    command -v "$1" >/dev/null && return
     log=$(mktemp) || return 1
     {
         apt-get update -q
-        DEBIAN_FRONTEND=noninteractive apt-get install -y -q --no-install-recommends binutils-m68hc1x
+        DEBIAN_FRONTEND=noninteractive apt-get install -y -q --no-install-recommends "$2"
     } >"$log" 2>&1 || cat "$log"
     rm -f "$log"
-    command -v m68hc11-as >/dev/null
+    command -v "$1" >/dev/null
 }
+
+# GNU's assembler for the 68HC11, with its linker and objcopy.
+assembler() { had m68hc11-as binutils-m68hc1x; }

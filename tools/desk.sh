@@ -53,6 +53,15 @@ lend() { # FILE NAME
     { head -c 65537 <"$1" >"$work/here/$2"; } 2>/dev/null || rm -f "$work/here/$2"
 }
 
+# The program's name for the image. An S-record file is told by its name alone: an image may begin with any bytes, those
+# of a record too.
+image_name() { # IMAGE
+    case $1 in
+    *.[sS]19 | *.[sS]1 | *.[sS][xX] | *.[sS][rR][eE][cC] | *.[mM][oO][tT]) printf press.s19 ;;
+    *) printf press.bin ;;
+    esac
+}
+
 # The two files, in a scratch folder.
 lend_routine() { # IMAGE TICKET
     image=$1 ticket=$2 memory=
@@ -60,14 +69,14 @@ lend_routine() { # IMAGE TICKET
     trap 'rm -rf "$work"' EXIT
     trap 'exit 3' HUP INT TERM
     mkdir "$work/here" || exit 3
-    lend "$image" press.bin
+    lend "$image" "$(image_name "$image")"
     lend "$ticket" press.tkt
 }
 
 # The user's name for a file that a program names.
 named() { # PROGRAM'S NAME
     case $1 in
-    press.bin) printf '%s' "$image" ;;
+    press.bin | press.s19) printf '%s' "$image" ;;
     press.tkt) printf '%s' "$ticket" ;;
     memory) printf '%s' "$memory" ;;
     *) printf '%s' "$1" ;;

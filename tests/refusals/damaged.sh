@@ -13,6 +13,12 @@ undamaged() {
 ticket() { patched press.tkt "$@"; }
 image() { patched press.bin "$@"; }
 
+# P's ticket, and in place of its image an S-record file of these lines. P's image is one line,
+# S10E800036BD80083239010197403979: 14 bytes follow the count, and the code window is $8000 to $800A.
+records() { # LINE..
+    undamaged && rm press.bin && printf '%s\n' "$@" >press.s19
+}
+
 damaged() { # CAUSE
     undamaged
     case $1 in
@@ -36,5 +42,8 @@ damaged() { # CAUSE
     18) ticket 17 '\002' ;;        # entry at $8002
     19) ticket 21 '\031' ;;        # limit 25
     20) ticket 14 '\004' ;;        # a stack of 4 bytes
+    25) records S10E800036BD80083239010197403979 ;;            # no S9
+    26) records S10E800036BD80083239010197403978 S9030000FC ;; # a checksum too low by one
+    27) records S10E800136BD80083239010197403978 S9030000FC ;; # from $8001 on, so that $800B is given
     esac
 }

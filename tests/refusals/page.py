@@ -13,7 +13,7 @@ from pathlib import Path
 from typing import NamedTuple
 
 PAGE = Path(__file__).resolve().parents[2] / 'docs/REFUSALS.md'
-NUMBERS = range(1, 25)
+NUMBERS = range(1, 28)
 ITEM = re.compile(r'- \*\*(\d+)\*\* `(JUGROND_[A-Z_]+)`: ([^.]+)\. (?:Place: ([^.]+)\. )?To do: ([^.]+)\.')
 
 

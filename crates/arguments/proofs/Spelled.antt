@@ -10,7 +10,8 @@ use lib.Dec.{ltb, leb}
 use lib.ListN.{length, drop, getD}
 use lib.Seq.{drop-cons}
 use Rattle.arguments.specs.declared.number.Parsed.the-variants.{Number, Malformed}
-use Rattle.arguments.specs.Number.{digitOf, spelledFrom, numberOf}
+use Rattle.lists.specs.Digit.{digitOf}
+use Rattle.arguments.specs.Number.{spelledFrom, numberOf}
 
 module _ (b most : ℕ) where
   -- a text with digits

@@ -1,36 +1,12 @@
 // A number that a text spells.
 ghost use mathlib.Core.Path.{_≡_};
 ghost use Prim.Native.Nat.{_≤_};
-ghost use Rattle.arguments.specs.Number.{digitOf, numberOf};
+ghost use Rattle.arguments.specs.Number.{numberOf};
+use lists::digit::digit;
 
 pub enum Parsed {
     Number(u32),
     Malformed,
-}
-
-// The value of a digit, in upper or lower case; 16 where the byte is none.
-fn digit(c: u8) -> u8
-    ensures { λ r. ⌜ (r ≡ digitOf c) × (r ≤ 16) ⌝ }
-{
-    if c < b'0' {
-        return 16;
-    }
-    if c <= b'9' {
-        return c - 48;
-    }
-    if c < b'A' {
-        return 16;
-    }
-    if c <= b'F' {
-        return c - 55;
-    }
-    if c < b'a' {
-        return 16;
-    }
-    if c <= b'f' {
-        return c - 87;
-    }
-    16
 }
 
 // In a base up to 16, at most `most`. A text without digits spells none.

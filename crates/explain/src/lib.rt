@@ -4,6 +4,7 @@
 use crate::command::ticket_line;
 use crate::figures::figures_line;
 use crate::figures::lengths_line;
+use crate::file::file_lines;
 use crate::hex::word;
 use crate::place::place_line;
 use crate::words::to_do;
@@ -21,6 +22,8 @@ use ticket::read;
 
 mod words; // what a cause says, and what to do
 mod command; // what stands at an offset of the ticket
+mod file; // a line of an S-record file
+mod given; // a byte that none of its lines gives
 mod place; // the instruction at an address
 mod figures; // windows, lengths and the limit
 mod hex; // numbers in hexadecimal
@@ -32,16 +35,32 @@ fn verdict_line(x: Refusal) {
 }
 
 // The place of 1 to 8 is an offset, from 10 on an address; 9 has none.
-fn cause_line(x: Refusal) {
+fn place_label(x: Refusal) {
     // An offset fits 16 bits. A ticket's file has at most 65,536 bytes, so only the end of one that long would not: but
     // where the place is the end, the file stops between two commands after 22 + 11 n bytes, which is never 65,536.
     let place = (x.place % 65536) as u16;
-    decimal(x.number as u64);
     if x.number < 9 {
         word(b" at offset $", place);
     }
     if 9 < x.number {
         word(b" at $", place);
+    }
+}
+
+// The place of 25 to 27 is a line, counted from 1, but for a byte that is never given.
+fn line_label(x: Refusal) {
+    if x.place != 0 {
+        text(b" at line ");
+        decimal(x.place as u64);
+    }
+}
+
+fn cause_line(x: Refusal) {
+    decimal(x.number as u64);
+    if x.number < 25 {
+        place_label(x);
+    } else {
+        line_label(x);
     }
     text(b": ");
     words(x.number);
@@ -72,11 +91,27 @@ fn place_lines(x: Refusal, ticket: &[u8], image: &[u8]) {
     }
 }
 
+fn to_do_line(x: Refusal) {
+    text(b"to do: ");
+    to_do(x.number);
+    text(b"\n");
+}
+
 pub fn refused(x: Refusal, ticket: &[u8], image: &[u8]) {
     verdict_line(x);
     cause_line(x);
     place_lines(x, ticket, image);
-    text(b"to do: ");
-    to_do(x.number);
-    text(b"\n");
+    to_do_line(x);
+}
+
+// Where an S-record file is refused, so that there is no image: 25 to 27.
+pub fn refused_file(x: Refusal, ticket: &[u8], file: &[u8]) {
+    let reading = read(ticket);
+    let t = reading.ticket;
+    let h = t.header;
+    let code = h.code;
+    verdict_line(x);
+    cause_line(x);
+    file_lines(x, file, code);
+    to_do_line(x);
 }

@@ -34,6 +34,11 @@ pub fn words(number: u8) {
         18 => text(b"the entry is not marked, or its depth is not 0"),
         19 => text(b"the entry's cost is above the limit"),
         20 => text(b"the entry's need + 2 is above the stack window's length"),
+        25 => text(
+            b"the line is malformed: no S0, S1, S5 or S9 with a count from 3 on, exactly the digits that it says and a line feed; an S5 or S9 with data; an S5 that does not count the S1 lines before it; a line after S9; or S9 is missing",
+        ),
+        26 => text(b"the line's checksum is wrong"),
+        27 => text(b"a byte is outside the code window, given twice or never given"),
         _ => {}
     }
 }
@@ -85,6 +90,13 @@ pub fn to_do(number: u8) {
             b"lower the cost where it is more than the dearest path's; else shorten that path, or ask for a higher limit",
         ),
         20 => text(b"make the stack window longer, or push less; two of its bytes are home's"),
+        25 => text(
+            b"have the file written with addresses of 16 bits and S9 last, and add nothing to it: no blank, no empty line; see whether it was cut",
+        ),
+        26 => text(b"have the file written again; see whether a line was changed by hand"),
+        27 => text(
+            b"give each byte of the code window once and no other: leave out what is not the routine's code, fill gaps, or correct the code window's start or length",
+        ),
         _ => {}
     }
 }

@@ -3,9 +3,12 @@ ghost use Rattle.io.specs.Counts.{Counts};
 use io::write_all;
 use libc::STDOUT_FILENO;
 
-// Whether the whole file is in the buffer, and how many bytes were read.
+pub mod routine; // a routine's two files
+
+// Whether the whole file is in the buffer, whether there is none of that name, and how many bytes were read.
 pub struct File {
     pub whole: bool,
+    pub missing: bool,
     pub length: usize,
 }
 
@@ -18,6 +21,7 @@ pub fn load(name: &[u8], buf: &mut [u8]) -> File
     if fd < 0 {
         return File {
             whole: false,
+            missing: os::errno() == libc::ENOENT,
             length: 0,
         };
     }
@@ -27,6 +31,7 @@ pub fn load(name: &[u8], buf: &mut [u8]) -> File
     libc::close(fd);
     File {
         whole: rest == 0,
+        missing: false,
         length,
     }
 }

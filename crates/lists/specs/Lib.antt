@@ -1,3 +1,4 @@
 pub mod Bit
 pub mod Splice
 pub mod Ascii
+pub mod Digit

@@ -1,30 +1,36 @@
-// The checking program: reads press.bin and press.tkt from the folder it is run in and prints the verdict as one line
-// (document 01, "One routine, read aloud").
-use files::load;
-use files::unfit;
+// The checking program: reads press.bin, or press.s19 where there is none, and press.tkt from the folder it is run in
+// and prints the verdict as one line (document 01, "One routine, read aloud"; document 02, a).
+use answers::Verdict;
+use files::routine::load_routine;
+use files::routine::room;
 use io::write_all;
 use libc::STDOUT_FILENO;
 use text::verdict::put_verdict;
 use verdict::verdict;
+use verdict::verdict_of_records;
 
-fn judge(ticket: &[u8], image: &[u8]) {
+fn print(v: Verdict) {
     let mut line = [0u8; 64];
-    let n = put_verdict(verdict(ticket, image), &mut line);
+    let n = put_verdict(v, &mut line);
     write_all(STDOUT_FILENO, &line[0..n]);
 }
 
-fn main() {
+fn judge_records(ticket: &[u8], file: &[u8]) {
     let mut image = io::large_buffer();
+    let n = room(ticket, &image);
+    print(verdict_of_records(ticket, file, &mut image[..n]));
+}
+
+fn main() {
+    let mut first = io::large_buffer();
     let mut ticket = io::large_buffer();
-    let i = load(b"press.bin", &mut image);
-    if !i.whole {
-        unfit(b"press.bin");
+    let r = load_routine(&mut first, &mut ticket);
+    if !r.whole {
         return;
     }
-    let t = load(b"press.tkt", &mut ticket);
-    if !t.whole {
-        unfit(b"press.tkt");
-        return;
+    if r.records {
+        judge_records(&ticket[..r.ticket], &first[..r.first]);
+    } else {
+        print(verdict(&ticket[..r.ticket], &first[..r.first]));
     }
-    judge(&ticket[..t.length], &image[..i.length]);
 }

@@ -1,16 +1,21 @@
-// The desk stepper: reads press.bin and press.tkt from the folder it is run in and, where the routine is accepted, runs
-// it from its start and prints one line for each instruction; where it is refused, the refusal, what it means, what
-// stands at the place and what to do. docs/WORKSHOPS.md explains the lines and the arguments.
+// The desk stepper: reads press.bin, or press.s19 where there is none, and press.tkt from the folder it is run in and,
+// where the routine is accepted, runs it from its start and prints one line for each instruction; where it is refused,
+// the refusal, what it means, what stands at the place and what to do. docs/WORKSHOPS.md explains the lines and the
+// arguments.
 use accepted::accepted;
 use answers::Verdict;
 use bad_argument::say_why;
 use explain::refused;
+use explain::refused_file;
 use files::load;
+use files::routine::load_routine;
+use files::routine::room;
 use files::unfit;
 use io::write_all;
 use libc::STDERR_FILENO;
 use options::Options;
 use verdict::verdict;
+use verdict::verdict_of_records;
 
 // the arguments
 mod options; // what they ask for
@@ -47,6 +52,21 @@ fn judge(o: Options, ticket: &[u8], image: &[u8], mem: [u8; 65536]) {
     }
 }
 
+// The same for an S-record file, with a buffer for the image that it names. From 25 on the file itself is refused, and
+// there is no image.
+fn judge_records(o: Options, ticket: &[u8], file: &[u8], image: &mut [u8], mem: [u8; 65536]) {
+    match verdict_of_records(ticket, file, image) {
+        Verdict::Refuse(x) => {
+            if x.number < 25 {
+                refused(x, ticket, image);
+            } else {
+                refused_file(x, ticket, file);
+            }
+        }
+        Verdict::Accept(_, cost, stack) => accepted(o, ticket, image, mem, cost, stack),
+    }
+}
+
 fn main() {
     let o = options::read();
     if o.bad != 0 {
@@ -54,17 +74,11 @@ fn main() {
         usage();
         return;
     }
-    let mut image = io::large_buffer();
+    let mut first = io::large_buffer();
     let mut ticket = io::large_buffer();
     let mut mem = io::large_buffer();
-    let i = load(b"press.bin", &mut image);
-    if !i.whole {
-        unfit(b"press.bin");
-        return;
-    }
-    let t = load(b"press.tkt", &mut ticket);
-    if !t.whole {
-        unfit(b"press.tkt");
+    let r = load_routine(&mut first, &mut ticket);
+    if !r.whole {
         return;
     }
     if o.memory != 0 {
@@ -72,5 +86,17 @@ fn main() {
             return;
         }
     }
-    judge(o, &ticket[..t.length], &image[..i.length], mem);
+    if r.records {
+        let mut image = io::large_buffer();
+        let n = room(&ticket[..r.ticket], &image);
+        judge_records(
+            o,
+            &ticket[..r.ticket],
+            &first[..r.first],
+            &mut image[..n],
+            mem,
+        );
+    } else {
+        judge(o, &ticket[..r.ticket], &first[..r.first], mem);
+    }
 }

@@ -6,3 +6,4 @@ pub mod StartNumbered
 pub mod Promised
 pub mod Reading
 pub mod Home
+pub mod FilePromised

@@ -2,3 +2,4 @@ pub mod Promise
 pub mod Start
 pub mod Certification
 pub mod Routine
+pub mod Records

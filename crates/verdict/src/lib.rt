@@ -1,8 +1,9 @@
-// The verdict on a routine, and its start. `verdict`, `certify`, `start` and `start_routine` are the interface: they
-// take any bytes, any header and any memory.
+// The verdict on a routine, and its start. `verdict`, `verdict_of_records`, `certify`, `start` and `start_routine` are
+// the interface: they take any bytes, any header, any buffer and any memory.
 ghost use mathlib.Core.Path.{_≡_};
 ghost use Rattle.rules.specs.Checks.{verdictOf};
 ghost use Rattle.verdict.specs.Promise.{Promised};
+ghost use Rattle.verdict.specs.Records.{afterVerdict, recordsVerdictOf, FilePromised};
 ghost use Rattle.verdict.specs.Start.{startedOf, loadedOf, StartsAsClaimed};
 ghost use Rattle.verdict.specs.Certification.{certificationOf};
 ghost use Rattle.verdict.specs.Routine.{afterStart, startRoutineOf, StartedComesHome, CertificateComesHome};
@@ -14,6 +15,8 @@ use answers::Verdict;
 use answers::refuse;
 use checks::verdict::verdict_on;
 use commands::header::Header;
+use records::answer::Loaded;
+use records::load_image;
 use registers::Cycles;
 use registers::Data;
 use registers::Registers;
@@ -73,6 +76,29 @@ pub fn verdict(ticket: &[u8], image: &[u8]) -> Verdict
             let cost = c.cost;
             let stack = c.stack;
             Verdict::Accept(c.header.entry, cost, stack)
+        }
+    }
+}
+
+// The verdict on a routine whose image is an S-record file: the first cause of the ticket (1 to 8), of the file (25 to
+// 27), of the buffer's length (9), of the marks and of the whole (10 to 20). The buffer is written only where all up to
+// 9 is good, and then it is the image that the file names. An accepted routine comes home.
+pub fn verdict_of_records(ticket: &[u8], file: &[u8], image: &mut [u8]) -> Verdict
+    ensures { λ r. ⌜ (afterVerdict r (now (image .exit)) ≡ recordsVerdictOf (now (ticket .entry)) (now (file .entry))
+        (now (image .entry))) × FilePromised (now (ticket .entry)) (now (file .entry)) (now (image .entry)) ⌝ }
+{
+    let reading = read(ticket);
+    let answer = reading.answer;
+    match answer {
+        ReadAnswer::Refused(x) => Verdict::Refuse(x),
+        ReadAnswer::Read => {
+            let t = reading.ticket;
+            let header = t.header;
+            let code = header.code;
+            match load_image(code, file, image) {
+                Loaded::Refused(x) => Verdict::Refuse(x),
+                Loaded::Done => verdict_on(t, image),
+            }
         }
     }
 }

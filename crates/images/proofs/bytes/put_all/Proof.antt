@@ -1,0 +1,33 @@
+-- `put_all` is safe and ends. The measure is the number of bytes that are left.
+-- Assumes nothing.
+use Prim.Native.Nat.{_-_, _≤_}
+use mathlib.Core.Path.{_≡_, refl, _∙_}
+use native.Mathlib.Omega.{arith}
+use borrow.Author.Needs.{needs}
+use lib.ListN.{length}
+use Rattle.images.proofs.bytes.put_all.Statement.{statement}
+use Rattle.images.proofs.bytes.put_all.Tie as tie
+
+abbrev Inv-loop : tie.InvT-loop
+Inv-loop out₀ at s next₀ i₀ i-end out next i = (length out ≡ length out₀) × (i ≤ length s)
+
+abbrev μ-loop : tie.MeasureT-loop
+μ-loop out₀ at s next₀ i₀ i-end out next i = length s - i
+
+pub put-all-spec : {M : Type 1} → statement M
+put-all-spec =
+    tie.close
+    (tie.spec
+    Inv-loop
+    μ-loop
+    (λ c. (refl, omega arith))
+    (λ c. omega arith)
+    (search needs)
+    (λ c. omega arith)
+    (λ c. omega arith)
+    (λ c. (
+      c .before .before .put .kept .0 ∙ c .before .before .before .before .before .before .loop .inv .0,
+      omega arith,
+    ))
+    (λ c. c .before .loop .inv .0)
+    (search needs))
