@@ -16,7 +16,7 @@ int main(int count, char **words)
     for (uint32_t i = 1; i <= instructions; i++) {
         uint32_t answer = jugrond_step(ours->registers, sizeof ours->registers, ours->memory, sizeof ours->memory,
                                        &ours->cycles, &place);
-        switch_run(plain.registers, plain.memory, ours->cycles, &cycles);
+        switch_run(plain.registers, plain.memory, STATE_HOME, ours->cycles, &cycles);
         plain.cycles = cycles;
         if (answer != JUGROND_DONE || memcmp(ours, &plain, sizeof plain) != 0) {
             fprintf(stderr, "%s: different after %u instructions\n", words[1], i);

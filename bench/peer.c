@@ -6,7 +6,7 @@
 #include <stdbool.h>
 #include <string.h>
 
-enum { END, CODE, DATA, STACK, ENTRY, MARK, NAME, COMMANDS };
+enum { END, CODE, DATA, STACK, ENTRY, MARK, NAME, HOME, COMMANDS };
 enum { MOST_CODE = 4096, MOST_CYCLES = 2000000, MOST_BYTES = 1022, NAME_BYTES = 8 };
 
 struct window {
@@ -21,7 +21,7 @@ struct mark {
 struct routine {
     struct window windows[STACK + 1]; /* by command */
     uint32_t limit;
-    uint16_t entry, count;
+    uint16_t entry, home, count; /* home: 0 where the ticket does not say it */
     uint16_t index[MOST_CODE]; /* by code address: 0, or 1 + the number of its mark */
     struct mark marks[MOST_CODE];
 };
@@ -53,7 +53,7 @@ static bool share(const struct window *v, const struct window *w)
 /* ---- reading */
 
 static const uint8_t COMMAND_BYTES[COMMANDS] = {
-    [END] = 1, [CODE] = 5, [DATA] = 5, [STACK] = 5, [ENTRY] = 7, [MARK] = 11, [NAME] = 11};
+    [END] = 1, [CODE] = 5, [DATA] = 5, [STACK] = 5, [ENTRY] = 7, [MARK] = 11, [NAME] = 11, [HOME] = 3};
 
 /* The causes 4, 5 and 6 of a window, which is kept. */
 static uint32_t read_window(struct routine *r, const uint8_t *bytes)
@@ -80,6 +80,12 @@ static uint32_t read_entry(struct routine *r, const uint8_t *bytes)
     r->entry = word_at(bytes + 1);
     r->limit = long_at(bytes + 3);
     return r->limit < 1 || r->limit > MOST_CYCLES ? 4 : 0;
+}
+
+static uint32_t read_home(struct routine *r, const uint8_t *bytes)
+{
+    r->home = word_at(bytes + 1);
+    return holds(&r->windows[CODE], r->home) ? 29 : 0;
 }
 
 /* The causes 3, 4 and 7 of a mark, which is kept. */
@@ -111,10 +117,12 @@ static uint32_t read_name(const struct routine *r, const uint8_t *bytes, uint8_t
     return 0;
 }
 
-/* Whether a command may follow another; the first follows END. */
+/* Whether a command may follow another; the first follows END. What else a mark and a name ask is asked of them. */
 static bool may_follow(uint8_t before, uint8_t command)
 {
-    return before < ENTRY ? command == before + 1 : command == END || command > ENTRY;
+    if (before < ENTRY)
+        return command == before + 1;
+    return command == HOME ? before == ENTRY : command == END || command > ENTRY;
 }
 
 static struct refusal read_ticket(struct routine *r, const uint8_t *ticket, size_t length)
@@ -123,6 +131,7 @@ static struct refusal read_ticket(struct routine *r, const uint8_t *ticket, size
     size_t at = 0;
 
     r->count = 0;
+    r->home = 0;
     do {
         uint8_t before = command;
         uint32_t number = 0;
@@ -145,6 +154,9 @@ static struct refusal read_ticket(struct routine *r, const uint8_t *ticket, size
         case ENTRY:
             number = read_entry(r, ticket + at);
             memset(r->index, 0, r->windows[CODE].length * sizeof r->index[0]);
+            break;
+        case HOME:
+            number = read_home(r, ticket + at);
             break;
         case MARK:
             number = read_mark(r, ticket + at);
@@ -328,7 +340,7 @@ static struct refusal judge(const struct routine *r, const uint8_t *image, size_
 }
 
 uint32_t peer_verdict(const uint8_t *ticket, size_t ticket_length, const uint8_t *image, size_t image_length,
-                      uint16_t *entry, uint32_t *cost, uint16_t *stack, uint32_t *place)
+                      uint16_t *entry, uint16_t *home, uint32_t *cost, uint16_t *stack, uint32_t *place)
 {
     struct routine r;
     struct refusal first = read_ticket(&r, ticket, ticket_length);
@@ -339,6 +351,7 @@ uint32_t peer_verdict(const uint8_t *ticket, size_t ticket_length, const uint8_t
         const struct mark *m = mark_at(&r, r.entry);
 
         *entry = r.entry;
+        *home = r.home;
         *cost = m->cost;
         *stack = (uint16_t)(m->need + 2);
     } else {

@@ -12,7 +12,7 @@ int main(int count, char **names)
     uint8_t registers[JUGROND_REGISTER_BYTES], slot[JUGROND_SLOT_BYTES];
     size_t image_length, ticket_length;
     uint32_t place, cycles;
-    uint16_t pc;
+    uint16_t home, pc;
 
     if (count != 3 || jugrond_reset(registers, sizeof registers) != JUGROND_DONE)
         return 2;
@@ -21,12 +21,13 @@ int main(int count, char **names)
     if (jugrond_certify(ticket, ticket_length, image, image_length, slot, sizeof slot, &place) != JUGROND_ACCEPTED)
         return 1;
     if (jugrond_start(ticket, ticket_length, image, image_length, registers, sizeof registers, memory, sizeof memory,
-                      &place) != JUGROND_ACCEPTED)
+                      &home, &place) != JUGROND_ACCEPTED)
         return 1;
     if (jugrond_start_certified(slot, sizeof slot, image, image_length, registers, sizeof registers, memory,
-                                sizeof memory, &place) != JUGROND_ACCEPTED)
+                                sizeof memory, &home, &place) != JUGROND_ACCEPTED)
         return 1;
-    return jugrond_run(registers, sizeof registers, memory, sizeof memory, UINT32_MAX, &cycles, &pc) == JUGROND_HOME
+    return jugrond_run(registers, sizeof registers, memory, sizeof memory, home, UINT32_MAX, &cycles, &pc) ==
+                   JUGROND_HOME
                ? 0
                : 1;
 }

@@ -5,6 +5,8 @@
 #define STATE_H
 #include <stdint.h>
 
+enum { STATE_HOME = 0x0000 }; /* no mix comes there */
+
 struct state {
     uint8_t registers[13]; /* A, B, X, Y, SP, PC, flags, the lowest SP, high byte first */
     uint8_t memory[65536];

@@ -186,14 +186,14 @@ static void pack(uint8_t regs[13], const struct cpu *r)
 #define INDEXED_Y mem[(uint16_t)(r.y + OPERAND(2))]
 #define NEXT(n) r.pc = (uint16_t)(pc + (n))
 
-int switch_run(uint8_t regs[13], uint8_t mem[65536], uint32_t budget, uint32_t *cycles)
+int switch_run(uint8_t regs[13], uint8_t mem[65536], uint16_t home, uint32_t budget, uint32_t *cycles)
 {
     struct cpu r = unpack(regs);
     uint32_t left = budget;
     int answer = SWITCH_HOME;
     uint16_t to;
 
-    while (r.pc != 0) {
+    while (r.pc != home) {
         const uint16_t pc = r.pc;
         const uint8_t op = mem[pc];
         const uint8_t cost = op == 0x18 ? COST_18[OPERAND(1)] : COST[op];

@@ -53,7 +53,7 @@ const char *jugrond_text(uint32_t outcome)
     case JUGROND_STACK_TOO_SMALL:
         return "the entry's need + 2 is above the stack window's length";
     case JUGROND_BAD_LENGTH:
-        return "the memory does not have 65,536 bytes, a C call's registers not 13, or its slot not 24";
+        return "the memory does not have 65,536 bytes, a C call's registers not 13, or its slot not 26";
     case JUGROND_NO_INSTRUCTION:
         return "no instruction has the bytes at PC";
     case JUGROND_WAITS:
@@ -68,6 +68,8 @@ const char *jugrond_text(uint32_t outcome)
         return "the line's checksum is wrong";
     case JUGROND_BAD_ADDRESS:
         return "a byte is outside the code window, given twice or never given";
+    case JUGROND_BAD_HOME:
+        return "home lies inside the code window";
     case JUGROND_SPENT:
         return "the budget does not cover the next instruction";
     default:

@@ -22,6 +22,11 @@ patched() { # FILE OFFSET BYTES, in octal
     printf "$3" | dd of="$1" bs=1 seek="$2" conv=notrunc status=none
 }
 
+put_in() { # FILE OFFSET BYTES, in octal: what stood there comes after them
+    # shellcheck disable=SC2059
+    { head -c "$2" "$1"; printf "$3"; tail -c +$(($2 + 1)) "$1"; } >"$1.longer" && mv "$1.longer" "$1"
+}
+
 # Whether a command can be had; Debian's package with it is installed where it is missing.
 had() { # COMMAND PACKAGE
     command -v "$1" >/dev/null && return

@@ -110,17 +110,17 @@ static struct end tick(uint8_t reading, uint32_t budget)
 {
     uint8_t registers[JUGROND_REGISTER_BYTES];
     struct end e = {0, 0, 0};
-    uint16_t pc = 0;
+    uint16_t home = 0, pc = 0;
 
     e.outcome = jugrond_reset(registers, sizeof registers);
     if (e.outcome != JUGROND_DONE)
         return e;
     registers[JUGROND_A] = reading;
     e.outcome = jugrond_start_certified(slot, sizeof slot, image.bytes, image.length, registers, sizeof registers,
-                                        memory, sizeof memory, &e.place);
+                                        memory, sizeof memory, &home, &e.place);
     if (e.outcome != JUGROND_ACCEPTED)
         return e;
-    e.outcome = jugrond_run(registers, sizeof registers, memory, sizeof memory, budget, &e.cycles, &pc);
+    e.outcome = jugrond_run(registers, sizeof registers, memory, sizeof memory, home, budget, &e.cycles, &pc);
     e.place = pc;
     note_lowest(registers);
     return e;

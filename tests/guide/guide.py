@@ -184,7 +184,11 @@ def aloud(page, ticket, image, commands_table):
     same('docs/TICKET.md: P', 'ACCEPT 8000 26 5', judged(ticket, image))
     same('docs/TICKET.md: P with limit 25', 'REFUSE 19 32768', judged(changed, image))
     same('docs/TICKET.md: P without its end', 'REFUSE 2 88', judged(ticket[:-1], image))
-    for answer in 'ACCEPT 8000 26 5', 'REFUSE 19 32768', 'REFUSE 2 88':
+    for home, answer in ('07 E0 12', 'ACCEPT 8000 26 5'), ('07 80 0A', 'REFUSE 29 22'):
+        same(f'docs/TICKET.md: P with {home}', answer,
+             judged(ticket[:22] + bytes.fromhex(home) + ticket[22:], image))
+        same(f'docs/TICKET.md: {home}', 1, part.count(f'`{home}`'))
+    for answer in 'ACCEPT 8000 26 5', 'REFUSE 19 32768', 'REFUSE 2 88', 'REFUSE 29 22':
         same(f'docs/TICKET.md: {answer}', 1, part.count(f'`{answer}`'))
 
 
@@ -212,11 +216,13 @@ def sizes(page, definitions):
     size = {byte: 1 + sum(int(operand[0]) for operand in row) for byte, row in table_rows.items()}
     head, marks = sum(size[byte] for byte in (1, 2, 3, 4)), int(table_rows[1][1][1].split(' to ')[1].replace(',', ''))
     order = ' '.join(page.split('## The order')[1].split('## What is refused')[0].split())
+    least, plain, named = (head + rest + size[0] for rest in (size[5], marks * size[5], marks * (size[5] + size[6])))
     for said in (f"They are {size[1]}, {size[2]}, {size[3]} and {size[4]} bytes: a ticket's first {head}.",
+                 f'`$07`, {size[7]} bytes, or nothing.', f'{size[7]} more than in the same ticket without it',
                  f'The marks, {size[5]} bytes each', f"the mark's address, {size[6]} bytes more",
-                 f'shorter than {head + size[5] + size[0]} bytes', f'at most {marks:,} of them',
-                 f'has at most {head + marks * size[5] + size[0]:,} bytes',
-                 f'it could have {head + marks * (size[5] + size[6]) + size[0]:,},'):
+                 f'shorter than {least} bytes, or {least + size[7]} with a home.', f'at most {marks:,} of them',
+                 f'has at most {plain:,} bytes, or {plain + size[7]:,} with a home.',
+                 f'it could have {named:,}, or {named + size[7]:,} with a home,'):
         same(f'docs/TICKET.md: {said}', 1, order.count(said))
 
 
@@ -225,7 +231,7 @@ def main():
     ticket = (ROOT / 'docs/TICKET.md').read_text()
     definitions = (ROOT / 'crates/commands/specs/Rows.antt').read_text()
     same('docs/TICKET.md: the table of commands', rows(definitions), table(ticket))
-    same('docs/TICKET.md: seven commands', list(range(7)), sorted(table(ticket)))
+    same('docs/TICKET.md: eight commands', list(range(8)), sorted(table(ticket)))
     ranges(ticket, definitions)
     sizes(ticket, definitions)
     p = ROOT / 'examples/p'

@@ -1,7 +1,8 @@
 /*
  * The library's verdict and the second one, bench/peer.c, must agree: on each place of the opcode maps with claims
  * around the least that are accepted, and on routines made up by chance, some of them then changed; all are the same in
- * every run. Each outcome from 0 to 20 must occur. An argument gives another number of made-up routines.
+ * every run. Each outcome from 0 to 20, and 29, must occur, and acceptances with a home that is not $0000. An argument
+ * gives another number of made-up routines.
  * Prints a line for each difference, how often each outcome occurred, and last the count; the exit status tells.
  */
 #include "jugrond.h"
@@ -12,8 +13,12 @@
 #include <stdlib.h>
 #include <string.h>
 
+static const uint32_t OUTCOMES[] = {0,  1,  2,  3,  4,  5,  6,  7,  8,  9,  10,
+                                    11, 12, 13, 14, 15, 16, 17, 18, 19, 20, 29};
+enum { OUTCOME_COUNT = sizeof OUTCOMES / sizeof OUTCOMES[0] };
+
 static int passed, failed;
-static int occurred[21];
+static int occurred[30], with_home; /* by outcome; and acceptances with a home that is not $0000 */
 
 static void compare(const uint8_t *ticket, size_t length, const struct judged *r)
 {
@@ -21,6 +26,7 @@ static void compare(const uint8_t *ticket, size_t length, const struct judged *r
     struct answer peers = answer_of(peer_verdict, ticket, length, r->image, r->length);
 
     occurred[peers.outcome]++;
+    with_home += peers.outcome == 0 && peers.home != 0;
     if (same(&ours, &peers)) {
         passed++;
         return;
@@ -181,11 +187,14 @@ int main(int count, char **words)
     printf("%d at the places of the opcode maps\n", passed + failed);
     for (long i = 0; i < made; i++)
         try_made();
-    for (int i = 0; i <= 20; i++) {
-        printf("%d: %d%s", i, occurred[i], i < 20 ? ", " : "\n");
-        if (occurred[i] == 0)
+    for (int i = 0; i < OUTCOME_COUNT; i++) {
+        printf("%u: %d, ", (unsigned)OUTCOMES[i], occurred[OUTCOMES[i]]);
+        if (occurred[OUTCOMES[i]] == 0)
             failed++;
     }
+    printf("accepted with another home: %d\n", with_home);
+    if (with_home == 0)
+        failed++;
     printf("%d passed, %d failed\n", passed, failed);
     return failed == 0 ? EXIT_SUCCESS : EXIT_FAILURE;
 }

@@ -27,6 +27,7 @@ struct call {
     const char *name;
     struct registers before;
     struct bytes given[3];
+    uint16_t home;   /* of a run; $0000 where nothing is said */
     uint32_t budget; /* of a run */
     uint32_t outcome;
     uint32_t cycles;

@@ -53,15 +53,15 @@ static void check(const char *name, uint16_t output, int wanted, int lowest_want
     uint8_t registers[JUGROND_REGISTER_BYTES];
     uint32_t outcome, cycles = 0, refused_at;
     int lowest;
-    uint16_t place;
+    uint16_t home, place;
 
     if (jugrond_reset(registers, sizeof registers) != JUGROND_DONE ||
         jugrond_start_certified(slot, sizeof slot, image, image_length, registers, sizeof registers, memory,
-                                sizeof memory, &refused_at) != JUGROND_ACCEPTED) {
+                                sizeof memory, &home, &refused_at) != JUGROND_ACCEPTED) {
         printf("DIFFERENCE %s, run %d: not started\n", name, runs);
         exit(1);
     }
-    outcome = jugrond_run(registers, sizeof registers, memory, sizeof memory, certified, &cycles, &place);
+    outcome = jugrond_run(registers, sizeof registers, memory, sizeof memory, home, certified, &cycles, &place);
     lowest = registers[JUGROND_LOWEST_SP] << 8 | registers[JUGROND_LOWEST_SP + 1];
     if (cycles > dearest)
         dearest = cycles;

@@ -32,14 +32,14 @@
 #define FAR_GUARD (16 << 20) /* below a thread's stack, so that no frame reaches over it */
 #define PLACES 1024          /* of the opcode maps: 256 each without a prefix, with $18, $1A and $CD */
 #define MARKS 4096           /* the most that a ticket can have */
-#define LONGEST_TICKET 90135 /* as many marks, each with a name */
+#define LONGEST_TICKET 90138 /* home, and as many marks, each with a name */
 
 static uint8_t registers[JUGROND_REGISTER_BYTES], memory[JUGROND_MEMORY_BYTES], slot[JUGROND_SLOT_BYTES];
-static uint8_t p_ticket[P_TICKET_BYTES + 1], p_image[P_IMAGE_BYTES + 1];
+static uint8_t p_ticket[P_MOST_TICKET_BYTES], p_image[P_IMAGE_BYTES + 1];
 static uint8_t long_ticket[LONGEST_TICKET], long_image[MARKS], longest_image[65535];
 
 static uint32_t cost, place32, cycles;
-static uint16_t entry, stack, place16;
+static uint16_t entry, home, stack, place16;
 
 static void expect(uint32_t got, uint32_t wanted)
 {
@@ -56,14 +56,15 @@ struct judged {
 
 static void by_verdict(const struct judged *j)
 {
-    expect(jugrond_verdict(j->ticket, j->ticket_length, j->image, j->image_length, &entry, &cost, &stack, &place32),
+    expect(jugrond_verdict(j->ticket, j->ticket_length, j->image, j->image_length, &entry, &home, &cost, &stack,
+                           &place32),
            j->outcome);
 }
 
 static void by_start(const struct judged *j)
 {
     expect(jugrond_start(j->ticket, j->ticket_length, j->image, j->image_length, registers, sizeof registers, memory,
-                         sizeof memory, &place32),
+                         sizeof memory, &home, &place32),
            j->outcome);
 }
 
@@ -100,7 +101,7 @@ static uint8_t *put(uint8_t *at, uint32_t value, int bytes)
     return at;
 }
 
-/* The longest ticket: NOPs and an RTS, a mark with a name at each. The cost at the last NOP is given. */
+/* The longest ticket: home; NOPs and an RTS, a mark with a name at each. The cost at the last NOP is given. */
 static void make_longest(uint32_t last)
 {
     uint8_t *at = put(put(put(long_ticket, 1, 1), 0x8000, 2), MARKS, 2);
@@ -108,6 +109,7 @@ static void make_longest(uint32_t last)
     at = put(put(put(at, 2, 1), 0x0040, 2), 1, 2);
     at = put(put(put(at, 3, 1), 0x01f0, 2), 5, 2);
     at = put(put(put(at, 4, 1), 0x8000, 2), 2 * (MARKS - 1) + 5, 4);
+    at = put(put(at, 7, 1), 0xffff, 2);
     for (uint32_t i = 0; i < MARKS; i++) {
         at = put(put(put(at, 5, 1), 0x8000 + i, 2), i == MARKS - 2 ? last : 2 * (MARKS - 1 - i) + 5, 4);
         at = put(put(put(put(at, 0, 4), 6, 1), 0x8000 + i, 2), 0x41424344, 4);
@@ -166,7 +168,7 @@ static void run_everywhere(void)
 {
     for (uint32_t n = 0; n < PLACES; n++) {
         set_place(n);
-        jugrond_run(registers, sizeof registers, memory, sizeof memory, 10000, &cycles, &place16);
+        jugrond_run(registers, sizeof registers, memory, sizeof memory, 0, 10000, &cycles, &place16);
     }
 }
 
@@ -174,14 +176,14 @@ static void start_p(void)
 {
     make_image(&routines[0], p_image);
     expect(jugrond_start_certified(routines[0].slot, JUGROND_SLOT_BYTES, p_image, P_IMAGE_BYTES, registers,
-                                   sizeof registers, memory, sizeof memory, &place32),
+                                   sizeof registers, memory, sizeof memory, &home, &place32),
            JUGROND_ACCEPTED);
 }
 
 static void run_p(void)
 {
     start_p();
-    expect(jugrond_run(registers, sizeof registers, memory, sizeof memory, 26, &cycles, &place16), JUGROND_HOME);
+    expect(jugrond_run(registers, sizeof registers, memory, sizeof memory, home, 26, &cycles, &place16), JUGROND_HOME);
 }
 
 static void start_longest(void)
@@ -189,10 +191,10 @@ static void start_longest(void)
     memcpy(slot, routines[0].slot, sizeof slot);
     put(slot + JUGROND_SLOT_CODE_LENGTH, sizeof longest_image, 2);
     expect(jugrond_start_certified(slot, sizeof slot, longest_image, sizeof longest_image, registers, sizeof registers,
-                                   memory, sizeof memory, &place32),
+                                   memory, sizeof memory, &home, &place32),
            JUGROND_ACCEPTED);
     expect(jugrond_start_certified(slot, sizeof slot, longest_image, 1, registers, sizeof registers, memory,
-                                   sizeof memory, &place32),
+                                   sizeof memory, &home, &place32),
            JUGROND_BAD_IMAGE);
 }
 

@@ -16,7 +16,7 @@
 #include <valgrind/memcheck.h>
 
 enum { CODE = 0x8000, NEAR = 0x40, FAR = 0x2040, WORD = 2, NOP = 0x01, BVS = 0x29, V = 0x02 };
-enum { BUDGET = 20, INSTRUCTIONS = 83 };
+enum { HOME = 0x0000, BUDGET = 20, INSTRUCTIONS = 83 };
 
 static uint8_t memory[JUGROND_MEMORY_BYTES], registers[JUGROND_REGISTER_BYTES];
 static unsigned instructions;
@@ -121,7 +121,7 @@ static unsigned dependent(const char *name)
     unsigned before = VALGRIND_COUNT_ERRORS;
 
     expect_number(name, "outcome",
-                  jugrond_run(registers, sizeof registers, memory, sizeof memory, BUDGET, &cycles, &place),
+                  jugrond_run(registers, sizeof registers, memory, sizeof memory, HOME, BUDGET, &cycles, &place),
                   JUGROND_SPENT);
     return VALGRIND_COUNT_ERRORS - before;
 }

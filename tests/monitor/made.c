@@ -96,6 +96,20 @@ static void place_windows(struct judged *r)
     r->stack = (struct window){0x0300, 2};
 }
 
+/* In the data or stack window, beside the code window, or far from all; none is in the code window. */
+static void place_home(struct judged *r)
+{
+    uint16_t homes[] = {r->data.start,
+                        (uint16_t)(r->stack.start + 1),
+                        (uint16_t)(r->code.start - 1),
+                        (uint16_t)(r->code.start + r->code.length),
+                        0x0000,
+                        0x4321};
+
+    r->says_home = chance(2) == 0;
+    r->home = r->says_home ? homes[chance(6)] : 0x0000;
+}
+
 static void put_bytes(struct judged *r, const struct line *l)
 {
     static const uint8_t PREFIXES[MAPS] = {[MAP_18] = 0x18, [MAP_1A] = 0x1a, [MAP_CD] = 0xcd};
@@ -154,6 +168,7 @@ void make_routine(struct judged *r)
 
     add_lines();
     place_windows(r);
+    place_home(r);
     r->length = r->code.length;
     r->count = (size_t)count;
     for (int i = count - 1; i >= 0; i--) {
@@ -203,7 +218,7 @@ static void change_header(struct judged *r)
 {
     struct window *windows[] = {&r->code, &r->data, &r->stack}, *w = windows[chance(3)];
 
-    switch (chance(6)) {
+    switch (chance(7)) {
     case 0:
         w->start = (uint16_t)near(w->start);
         break;
@@ -223,6 +238,10 @@ static void change_header(struct judged *r)
         break;
     case 5:
         r->stack.length = (uint16_t)near(r->stack.length);
+        break;
+    case 6: /* at a window's first address, its last, or beside it */
+        r->says_home = true;
+        r->home = (uint16_t)(w->start + (chance(2) == 0 ? 0 : w->length) - chance(2));
         break;
     }
 }
@@ -265,11 +284,31 @@ void change_routine(struct judged *r)
     }
 }
 
+/* Where a ticket's marks begin. */
+static size_t marks_from(const uint8_t *ticket)
+{
+    return ticket[HEADER_BYTES] == 7 ? HEADER_BYTES + HOME_BYTES : HEADER_BYTES;
+}
+
+/* A home where a command begins or ends: where it belongs, a second one, or out of order. */
+static size_t put_home(uint8_t *ticket, size_t length)
+{
+    size_t marks = (length - marks_from(ticket) - 1) / MARK_BYTES;
+    size_t places[] = {0, 5, 15, HEADER_BYTES, marks_from(ticket), marks_from(ticket) + MARK_BYTES * marks};
+    uint8_t *home = ticket + places[chance(6)];
+
+    memmove(home + HOME_BYTES, home, length - (size_t)(home - ticket));
+    home[0] = 7;
+    home[1] = (uint8_t)chance(256);
+    home[2] = (uint8_t)chance(256);
+    return length + HOME_BYTES;
+}
+
 /* A name may come to stand behind another. */
 static size_t put_name(uint8_t *ticket, size_t length)
 {
-    size_t marks = (length - HEADER_BYTES - 1) / MARK_BYTES;
-    size_t after = HEADER_BYTES + MARK_BYTES * (1 + chance((uint32_t)marks));
+    size_t marks = (length - marks_from(ticket) - 1) / MARK_BYTES;
+    size_t after = marks_from(ticket) + MARK_BYTES * (1 + chance((uint32_t)marks));
     uint8_t *name = ticket + after;
 
     memmove(name + NAME_BYTES, name, length - after);
@@ -282,7 +321,7 @@ static size_t put_name(uint8_t *ticket, size_t length)
 
 size_t change_ticket(uint8_t *ticket, size_t length)
 {
-    switch (chance(5)) {
+    switch (chance(6)) {
     case 0:
         ticket[chance((uint32_t)length)] = (uint8_t)chance(256);
         return length;
@@ -292,8 +331,11 @@ size_t change_ticket(uint8_t *ticket, size_t length)
         ticket[length] = (uint8_t)chance(256);
         return length + 1;
     case 3:
-        ticket[HEADER_BYTES + MARK_BYTES * chance((uint32_t)(length - HEADER_BYTES) / MARK_BYTES)] = (uint8_t)chance(8);
+        ticket[marks_from(ticket) + MARK_BYTES * chance((uint32_t)(length - marks_from(ticket)) / MARK_BYTES)] =
+            (uint8_t)chance(9);
         return length;
+    case 4:
+        return put_home(ticket, length);
     default:
         return chance(4) == 0 ? put_name(ticket, put_name(ticket, length)) : put_name(ticket, length);
     }

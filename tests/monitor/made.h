@@ -7,14 +7,15 @@
 /* The next number below `limit`. */
 uint32_t chance(uint32_t limit);
 
-/* A routine of up to 24 instructions with forward branches and calls, each marked with the least cost and need. */
+/* A routine of up to 24 instructions with forward branches and calls, each marked with the least cost and need; every
+   other one says its home. */
 void make_routine(struct judged *r);
 
 /* Changes one thing: a claim, a mark, a byte of the image, the header. */
 void change_routine(struct judged *r);
 
-/* Changes a ticket of so many bytes, with room for two names more: a byte, its length, or names put in. Answers its
-   new length. */
+/* Changes a ticket of so many bytes, with room for two names more: a byte, its length, or names or a home put in.
+   Answers its new length. */
 size_t change_ticket(uint8_t *ticket, size_t length);
 
 #define NAME_BYTES 11

@@ -60,9 +60,9 @@ static uint32_t call_step(struct lending *l)
                         (uint32_t *)(void *)l->cycles.bytes, (uint16_t *)(void *)l->place.bytes);
 }
 
-static uint32_t call_run(struct lending *l, uint32_t budget)
+static uint32_t call_run(struct lending *l, uint16_t home, uint32_t budget)
 {
-    return jugrond_run(l->registers.bytes, l->registers.length, l->memory.bytes, l->memory.length, budget,
+    return jugrond_run(l->registers.bytes, l->registers.length, l->memory.bytes, l->memory.length, home, budget,
                        (uint32_t *)(void *)l->cycles.bytes, (uint16_t *)(void *)l->place.bytes);
 }
 
@@ -109,7 +109,7 @@ static void check_call(const struct call *c, bool is_run, size_t guard)
     put_bytes(memory, c->given, sizeof c->given / sizeof c->given[0]);
     pack(registers, &c->before);
     l = lend_all(registers, sizeof registers, memory, sizeof memory, guard);
-    expect_number(c->name, "outcome", is_run ? call_run(&l, c->budget) : call_step(&l), c->outcome);
+    expect_number(c->name, "outcome", is_run ? call_run(&l, c->home, c->budget) : call_step(&l), c->outcome);
     put_bytes(memory, c->written, sizeof c->written / sizeof c->written[0]);
     pack(registers, &c->after);
     expect_all(c->name, &l, registers, memory, is_run ? by_run(c->outcome) : by_step(c->outcome), c->cycles, c->place);
@@ -154,7 +154,8 @@ static void check_reset(size_t guard)
     take_back(&registers);
 }
 
-/* PC is $0000 in what is lent, so that a run that looked for home first would say so; the lowest SP is above SP. */
+/* PC is $0000 in what is lent, and home too, so that a run that looked for home first would say so; the lowest SP is
+ * above SP. */
 static void check_length(const char *name, size_t registers_length, size_t memory_length, size_t guard)
 {
     static const uint8_t registers[14] = {0x01, 0x02, 0x03, 0x04, 0x05, 0x06, 0x07,
@@ -168,7 +169,7 @@ static void check_length(const char *name, size_t registers_length, size_t memor
     expect_all(name, &l, registers, memory, by_step(JUGROND_BAD_LENGTH), 0, 0);
     take_back_all(&l);
     l = lend_all(registers, registers_length, memory, memory_length, guard);
-    expect_number(name, "outcome of a run", call_run(&l, 1000), JUGROND_BAD_LENGTH);
+    expect_number(name, "outcome of a run", call_run(&l, 0x0000, 1000), JUGROND_BAD_LENGTH);
     expect_all(name, &l, registers, memory, by_run(JUGROND_BAD_LENGTH), 0, 0);
     take_back_all(&l);
     if (registers_length != JUGROND_REGISTER_BYTES) {
@@ -219,7 +220,7 @@ static void check_in_turn(size_t guard)
         sum += cycles;
         expect_number("P in turn", "lowest SP", word_in(l.registers.bytes + JUGROND_LOWEST_SP), lowest[done]);
         done++;
-    } while (done < 6 && word_in(l.registers.bytes + JUGROND_PC) != 0);
+    } while (done < 6 && word_in(l.registers.bytes + JUGROND_PC) != p->home);
     expect_number("P in turn", "steps", (uint32_t)done, 6);
     expect_number("P in turn", "cycles", sum, p->cycles);
     put_bytes(memory, p->written, sizeof p->written / sizeof p->written[0]);

@@ -1,9 +1,9 @@
 /*
- * Judges routine P of the specification, whole and damaged in each way, into a slot, starts it and others from slots,
- * and runs what was started: jugrond_certify and jugrond_start_certified. Slots of any bytes are started too; what must
- * stand in memory and registers then is computed here, from the header's words. Looks at every byte and number that was
- * lent and at guard bytes around them. Prints a line for each difference and for each group, and last the groups'
- * count; the exit status tells.
+ * Judges routine P of the specification, whole, with homes and damaged in each way, into a slot, starts it and others
+ * from slots, and runs what was started: jugrond_certify and jugrond_start_certified. Slots of any bytes are started
+ * too; what must stand in memory and registers then is computed here, from the header's words. Looks at every byte and
+ * number that was lent and at guard bytes around them. Prints a line for each difference and for each group, and last
+ * the groups' count; the exit status tells.
  */
 #include "jugrond.h"
 
@@ -18,7 +18,7 @@
 
 #define LONGEST_IMAGE 65535 /* the most that a slot can name */
 
-static uint8_t ticket[P_TICKET_BYTES + 1], image[LONGEST_IMAGE + 1];
+static uint8_t ticket[P_MOST_TICKET_BYTES], image[LONGEST_IMAGE + 1];
 static uint8_t background[JUGROND_MEMORY_BYTES + 1];
 
 /* The same bytes at each run of this program. */
@@ -39,8 +39,8 @@ static void put_word(uint8_t *bytes, uint16_t word)
 }
 
 /* A slot that holds another routine's numbers before: a refusal must leave each of them. */
-static const uint8_t old_slot[JUGROND_SLOT_BYTES + 1] = {1,  2,  3,  4,  5,  6,  7,  8,  9,  10, 11, 12, 13,
-                                                         14, 15, 16, 17, 18, 19, 20, 21, 22, 23, 24, 25};
+static const uint8_t old_slot[JUGROND_SLOT_BYTES + 1] = {1,  2,  3,  4,  5,  6,  7,  8,  9,  10, 11, 12, 13, 14,
+                                                         15, 16, 17, 18, 19, 20, 21, 22, 23, 24, 25, 26, 27};
 
 static void check_certify(const struct routine *c, size_t slot_length, size_t guard)
 {
@@ -66,13 +66,15 @@ static void check_certify(const struct routine *c, size_t slot_length, size_t gu
     take_back(&place);
 }
 
+/* 24 bytes were a slot before it had home. */
+static const size_t slot_lengths[] = {26, 0, 24, 25, 27};
+#define SLOT_LENGTHS (sizeof slot_lengths / sizeof slot_lengths[0])
+
 static void check_slots_filled(size_t guard)
 {
-    static const size_t lengths[] = {JUGROND_SLOT_BYTES, 0, 23, 25};
-
     for (size_t i = 0; i < routine_count; i++)
-        for (size_t j = 0; j < sizeof lengths / sizeof lengths[0]; j++)
-            check_certify(&routines[i], lengths[j], guard);
+        for (size_t j = 0; j < SLOT_LENGTHS; j++)
+            check_certify(&routines[i], slot_lengths[j], guard);
 }
 
 /* What is lent to a start, and how much of it. */
@@ -95,8 +97,8 @@ static uint32_t start_outcome(const struct start *c)
     return JUGROND_ACCEPTED;
 }
 
-/* The image to the code window, then two zero bytes to the end of the stack window, SP and the lowest SP below them, PC
- * to the entry; addresses wrap. */
+/* The image to the code window, then home to the last two bytes of the stack window, high byte first, SP and the lowest
+ * SP below them, PC to the entry; addresses wrap. */
 static void start_wanted(const uint8_t *slot, size_t image_length, uint8_t *registers, uint8_t *memory)
 {
     uint32_t code = slot_number(slot, JUGROND_SLOT_CODE, 2);
@@ -105,8 +107,8 @@ static void start_wanted(const uint8_t *slot, size_t image_length, uint8_t *regi
 
     for (size_t i = 0; i < image_length; i++)
         memory[(code + i) % JUGROND_MEMORY_BYTES] = image[i];
-    memory[(past - 1) % JUGROND_MEMORY_BYTES] = 0;
-    memory[(past - 2) % JUGROND_MEMORY_BYTES] = 0;
+    memory[(past - 2) % JUGROND_MEMORY_BYTES] = slot[JUGROND_SLOT_HOME];
+    memory[(past - 1) % JUGROND_MEMORY_BYTES] = slot[JUGROND_SLOT_HOME + 1];
     put_word(registers + JUGROND_SP, (uint16_t)(past - 3));
     put_word(registers + JUGROND_LOWEST_SP, (uint16_t)(past - 3));
     put_word(registers + JUGROND_PC, (uint16_t)slot_number(slot, JUGROND_SLOT_ENTRY, 2));
@@ -119,7 +121,8 @@ static void check_start(const char *name, const struct start *c, size_t guard)
     uint32_t outcome = start_outcome(c);
     struct lent s = lend(c->slot, c->slot_length, guard), i = lend(image, c->image_length, guard),
                 r = lend(given, c->registers_length, guard);
-    struct lent m = lend(background, c->memory_length, guard), place = lend(NULL, 4, guard);
+    struct lent m = lend(background, c->memory_length, guard), home = lend(NULL, 2, guard),
+                place = lend(NULL, 4, guard);
 
     memcpy(registers, given, sizeof registers);
     memcpy(memory, background, sizeof memory);
@@ -127,17 +130,19 @@ static void check_start(const char *name, const struct start *c, size_t guard)
         start_wanted(c->slot, c->image_length, registers, memory);
     expect_number(name, "outcome of a start",
                   jugrond_start_certified(s.bytes, s.length, i.bytes, i.length, r.bytes, r.length, m.bytes, m.length,
-                                          (uint32_t *)(void *)place.bytes),
+                                          (uint16_t *)(void *)home.bytes, (uint32_t *)(void *)place.bytes),
                   outcome);
     expect_bytes(name, "slot", &s, c->slot);
     expect_bytes(name, "image", &i, image);
     expect_bytes(name, "registers", &r, registers);
     expect_bytes(name, "memory", &m, memory);
+    expect_lent(name, "home", &home, outcome == JUGROND_ACCEPTED, slot_number(c->slot, JUGROND_SLOT_HOME, 2));
     expect_lent(name, "place", &place, outcome != JUGROND_ACCEPTED, 0);
     take_back(&s);
     take_back(&i);
     take_back(&r);
     take_back(&m);
+    take_back(&home);
     take_back(&place);
 }
 
@@ -145,17 +150,17 @@ static void check_start(const char *name, const struct start *c, size_t guard)
  * first. */
 static void check_lengths(size_t guard)
 {
-    static const size_t slots[] = {24, 0, 23, 25}, registers[] = {13, 0, 11, 12, 14},
-                        memories[] = {65536, 0, 65535, 65537}, images[] = {11, 0, 10, 12};
+    static const size_t registers[] = {13, 0, 11, 12, 14}, memories[] = {65536, 0, 65535, 65537},
+                        images[] = {11, 0, 10, 12};
     uint8_t slot[JUGROND_SLOT_BYTES + 1] = {0};
 
     memcpy(slot, routines[0].slot, JUGROND_SLOT_BYTES);
     make_image(&routines[0], image);
-    for (size_t s = 0; s < 4; s++)
+    for (size_t s = 0; s < SLOT_LENGTHS; s++)
         for (size_t r = 0; r < 5; r++)
             for (size_t m = 0; m < 4; m++)
                 for (size_t i = 0; i < 4; i++) {
-                    struct start c = {slot, slots[s], images[i], registers[r], memories[m]};
+                    struct start c = {slot, slot_lengths[s], images[i], registers[r], memories[m]};
 
                     check_start("lengths", &c, guard);
                 }
@@ -179,13 +184,29 @@ static void check_zeros(size_t guard)
     check_slot("zeros, the longest image", zeros, LONGEST_IMAGE, guard);
 }
 
+/* A slot's home goes to memory and to the number lent for it, whatever it is: also one in the code window, which no
+ * ticket has. The bytes that differ tell which of them goes where. */
+static void check_homes(size_t guard)
+{
+    static const uint16_t homes[] = {0x0000, 0x1234, 0x3412, 0x00ff, 0xff00, 0xffff, 0x0040, 0x01f4, 0x8000, 0x800a};
+    uint8_t slot[JUGROND_SLOT_BYTES];
+
+    memcpy(slot, routines[0].slot, sizeof slot);
+    make_image(&routines[0], image);
+    for (size_t i = 0; i < sizeof homes / sizeof homes[0]; i++) {
+        put_word(slot + JUGROND_SLOT_HOME, homes[i]);
+        check_slot("a slot with a home", slot, P_IMAGE_BYTES, guard);
+        check_slot("a slot with a home, another image", slot, P_IMAGE_BYTES - 1, guard);
+    }
+}
+
 /* Any bytes, with the image that the slot names and with another; the stack window ends often inside the image, and
  * around $0000. */
 static void check_any_slots(size_t guard)
 {
     random_state = 2463534242u;
     for (size_t i = 0; i < sizeof image; i++)
-        image[i] = (uint8_t)(1 + random_below(255)); /* no zero: home's bytes are seen among them */
+        image[i] = (uint8_t)(1 + random_below(255)); /* no zero: the bytes of home $0000 are seen among them */
     for (int i = 0; i < 400; i++) {
         uint8_t slot[JUGROND_SLOT_BYTES];
         uint32_t code, length;
@@ -194,6 +215,8 @@ static void check_any_slots(size_t guard)
             slot[j] = (uint8_t)random_below(256);
         if (i % 2 == 0)
             put_word(slot + JUGROND_SLOT_CODE_LENGTH, (uint16_t)random_below(4097));
+        if (i % 8 < 4)
+            put_word(slot + JUGROND_SLOT_HOME, 0x0000);
         code = slot_number(slot, JUGROND_SLOT_CODE, 2);
         length = slot_number(slot, JUGROND_SLOT_CODE_LENGTH, 2);
         if (i % 4 < 2) { /* the two last bytes of the stack window at, before or after the code window's ends */
@@ -209,38 +232,53 @@ static void check_any_slots(size_t guard)
     }
 }
 
+/* What a monitor keeps of a routine that was accepted. */
+struct kept {
+    uint8_t slot[JUGROND_SLOT_BYTES];
+    uint32_t cost;
+    uint16_t entry, home, stack;
+};
+
+/* Judges a routine over what is kept. */
+static void load(const struct routine *c, struct kept *k)
+{
+    uint32_t place = 0;
+
+    make_ticket(c, ticket);
+    make_image(c, image);
+    expect_number(c->name, "certify",
+                  jugrond_certify(ticket, c->ticket_length, image, c->image_length, k->slot, sizeof k->slot, &place),
+                  c->outcome);
+    expect_number(c->name, "verdict",
+                  jugrond_verdict(ticket, c->ticket_length, image, c->image_length, &k->entry, &k->home, &k->cost,
+                                  &k->stack, &place),
+                  c->outcome);
+}
+
 /* A refused reload loses neither the slot nor the figures that the monitor keeps. */
-static void check_reload(void)
+static void check_reload_over(const struct routine *loaded)
 {
     for (size_t i = 0; i < routine_count; i++) {
         const struct routine *c = &routines[i];
-        uint8_t slot[JUGROND_SLOT_BYTES];
-        uint32_t cost = 0, place = 0;
-        uint16_t entry = 0, stack = 0;
+        struct kept k = {.cost = 0};
 
-        make_ticket(&routines[0], ticket);
-        make_image(&routines[0], image);
-        expect_number("load", "certify",
-                      jugrond_certify(ticket, P_TICKET_BYTES, image, P_IMAGE_BYTES, slot, sizeof slot, &place),
-                      JUGROND_ACCEPTED);
-        expect_number("load", "verdict",
-                      jugrond_verdict(ticket, P_TICKET_BYTES, image, P_IMAGE_BYTES, &entry, &cost, &stack, &place),
-                      JUGROND_ACCEPTED);
+        load(loaded, &k);
         if (c->outcome == JUGROND_ACCEPTED)
             continue;
-        make_ticket(c, ticket);
-        make_image(c, image);
-        expect_number(c->name, "certify",
-                      jugrond_certify(ticket, c->ticket_length, image, c->image_length, slot, sizeof slot, &place),
-                      c->outcome);
-        expect_number(c->name, "verdict",
-                      jugrond_verdict(ticket, c->ticket_length, image, c->image_length, &entry, &cost, &stack, &place),
-                      c->outcome);
-        expect_number(c->name, "slot kept", memcmp(slot, routines[0].slot, sizeof slot) == 0, 1);
-        expect_number(c->name, "cost kept", cost, 26);
-        expect_number(c->name, "entry kept", entry, 0x8000);
-        expect_number(c->name, "stack kept", stack, 5);
+        load(c, &k);
+        expect_number(c->name, "slot kept", memcmp(k.slot, loaded->slot, sizeof k.slot) == 0, 1);
+        expect_number(c->name, "cost kept", k.cost, slot_number(loaded->slot, JUGROND_SLOT_COST, 4));
+        expect_number(c->name, "entry kept", k.entry, slot_number(loaded->slot, JUGROND_SLOT_ENTRY, 2));
+        expect_number(c->name, "home kept", k.home, slot_number(loaded->slot, JUGROND_SLOT_HOME, 2));
+        expect_number(c->name, "stack kept", k.stack, slot_number(loaded->slot, JUGROND_SLOT_STACK_BYTES, 2));
     }
+}
+
+static void check_reload(void)
+{
+    for (size_t i = 0; i < routine_count; i++)
+        if (routines[i].outcome == JUGROND_ACCEPTED)
+            check_reload_over(&routines[i]);
 }
 
 struct file {
@@ -260,16 +298,35 @@ static void read_file(struct file *f, const char *name)
     fclose(in);
 }
 
-/* The ticket's first four commands without their command bytes, then what the verdict answers. */
+#define AFTER_ENTRY 22
+
+/* A home command after the entry. */
+static void put_home(struct file *paper, uint16_t home)
+{
+    uint8_t *at = paper->bytes + AFTER_ENTRY;
+
+    memmove(at + HOME_BYTES, at, paper->length - AFTER_ENTRY);
+    at[0] = 7;
+    put_word(at + 1, home);
+    paper->length += HOME_BYTES;
+}
+
+/* What the ticket says of home: $0000 where it says nothing. */
+static uint32_t home_in(const struct file *paper)
+{
+    return paper->bytes[AFTER_ENTRY] == 7 ? slot_number(paper->bytes, AFTER_ENTRY + 1, 2) : 0x0000;
+}
+
+/* The ticket's first four commands without their command bytes, then what the verdict answers, home last. */
 static void check_layout(const char *name, const uint8_t *slot, const struct file *paper, const struct file *code)
 {
     uint32_t cost = 0, place = 0;
-    uint16_t entry = 0, stack = 0;
+    uint16_t entry = 0, home = 0xaaaa, stack = 0;
 
-    expect_number(
-        name, "verdict",
-        jugrond_verdict(paper->bytes, paper->length, code->bytes, code->length, &entry, &cost, &stack, &place),
-        JUGROND_ACCEPTED);
+    expect_number(name, "verdict",
+                  jugrond_verdict(paper->bytes, paper->length, code->bytes, code->length, &entry, &home, &cost, &stack,
+                                  &place),
+                  JUGROND_ACCEPTED);
     expect_number(name, "code window", memcmp(slot + JUGROND_SLOT_CODE, paper->bytes + 1, 4) == 0, 1);
     expect_number(name, "data window", memcmp(slot + JUGROND_SLOT_DATA, paper->bytes + 6, 4) == 0, 1);
     expect_number(name, "stack window", memcmp(slot + JUGROND_SLOT_STACK, paper->bytes + 11, 4) == 0, 1);
@@ -277,6 +334,8 @@ static void check_layout(const char *name, const uint8_t *slot, const struct fil
     expect_number(name, "entry", slot_number(slot, JUGROND_SLOT_ENTRY, 2), entry);
     expect_number(name, "cost", slot_number(slot, JUGROND_SLOT_COST, 4), cost);
     expect_number(name, "stack bytes", slot_number(slot, JUGROND_SLOT_STACK_BYTES, 2), stack);
+    expect_number(name, "home", slot_number(slot, JUGROND_SLOT_HOME, 2), home);
+    expect_number(name, "home in the ticket", home_in(paper), home);
 }
 
 /* Registers and memory that are started and run. */
@@ -298,11 +357,11 @@ static void expect_same(const char *name, const char *registers, const char *mem
     expect_number(name, memory, memcmp(judged.memory, certified.memory, sizeof judged.memory) == 0, 1);
 }
 
-static uint32_t run_machine(struct machine *m, uint32_t budget, uint32_t *cycles)
+static uint32_t run_machine(struct machine *m, uint16_t home, uint32_t budget, uint32_t *cycles)
 {
     uint16_t place;
 
-    return jugrond_run(m->registers, sizeof m->registers, m->memory, sizeof m->memory, budget, cycles, &place);
+    return jugrond_run(m->registers, sizeof m->registers, m->memory, sizeof m->memory, home, budget, cycles, &place);
 }
 
 /* Started from its slot a routine does what it does started from its ticket. */
@@ -310,43 +369,57 @@ static void check_both(const char *name, const uint8_t *slot, const struct file 
                        uint32_t budget)
 {
     uint32_t place, outcome, spent_judged = 0, spent_certified = 0;
+    uint16_t home_judged = 0x5555, home_certified = 0xaaaa;
 
     set_machine(&judged);
     set_machine(&certified);
     expect_number(name, "start",
                   jugrond_start(paper->bytes, paper->length, code->bytes, code->length, judged.registers,
-                                sizeof judged.registers, judged.memory, sizeof judged.memory, &place),
+                                sizeof judged.registers, judged.memory, sizeof judged.memory, &home_judged, &place),
                   JUGROND_ACCEPTED);
     expect_number(name, "start from the slot",
                   jugrond_start_certified(slot, JUGROND_SLOT_BYTES, code->bytes, code->length, certified.registers,
                                           sizeof certified.registers, certified.memory, sizeof certified.memory,
-                                          &place),
+                                          &home_certified, &place),
                   JUGROND_ACCEPTED);
     expect_same(name, "registers at the start", "memory at the start");
-    outcome = run_machine(&judged, budget, &spent_judged);
-    expect_number(name, "outcome", run_machine(&certified, budget, &spent_certified), outcome);
+    expect_number(name, "home at the start", home_judged, home_in(paper));
+    expect_number(name, "home at the start from the slot", home_certified, home_judged);
+    outcome = run_machine(&judged, home_judged, budget, &spent_judged);
+    expect_number(name, "outcome", run_machine(&certified, home_certified, budget, &spent_certified), outcome);
     expect_number(name, "cycles", spent_certified, spent_judged);
     expect_same(name, "registers", "memory");
+    if (outcome == JUGROND_HOME)
+        expect_number(name, "PC at home", slot_number(judged.registers, JUGROND_PC, 2), home_judged);
     if (budget >= slot_number(slot, JUGROND_SLOT_COST, 4))
         expect_number(name, "home within the certified cycles", outcome, JUGROND_HOME);
 }
 
 /* With every budget up to some above the examples' certified cycles, of which the most are 99, and with the largest. */
-static void check_example(const char *image_name, const char *ticket_name)
+static void check_budgets(const char *name, const struct file *paper, const struct file *code)
 {
-    static struct file code, paper;
     uint8_t slot[JUGROND_SLOT_BYTES];
     uint32_t place;
 
+    expect_number(name, "certify",
+                  jugrond_certify(paper->bytes, paper->length, code->bytes, code->length, slot, sizeof slot, &place),
+                  JUGROND_ACCEPTED);
+    check_layout(name, slot, paper, code);
+    for (uint32_t budget = 0; budget <= 110; budget++)
+        check_both(name, slot, paper, code, budget);
+    check_both(name, slot, paper, code, UINT32_MAX);
+}
+
+/* As it is, and with a home in its ticket. */
+static void check_example(const char *image_name, const char *ticket_name)
+{
+    static struct file code, paper;
+
     read_file(&code, image_name);
     read_file(&paper, ticket_name);
-    expect_number(ticket_name, "certify",
-                  jugrond_certify(paper.bytes, paper.length, code.bytes, code.length, slot, sizeof slot, &place),
-                  JUGROND_ACCEPTED);
-    check_layout(ticket_name, slot, &paper, &code);
-    for (uint32_t budget = 0; budget <= 110; budget++)
-        check_both(ticket_name, slot, &paper, &code, budget);
-    check_both(ticket_name, slot, &paper, &code, UINT32_MAX);
+    check_budgets(ticket_name, &paper, &code);
+    put_home(&paper, 0xfedc);
+    check_budgets(ticket_name, &paper, &code);
 }
 
 static void check_examples(void)
@@ -357,9 +430,13 @@ static void check_examples(void)
 }
 
 static const struct group groups[] = {
-    {"slots filled", check_slots_filled, NULL}, {"lengths", check_lengths, NULL},
-    {"a slot of zeros", check_zeros, NULL},     {"slots of any bytes", check_any_slots, NULL},
-    {"a refused reload", NULL, check_reload},   {"as from the ticket", NULL, check_examples},
+    {"slots filled", check_slots_filled, NULL},
+    {"lengths", check_lengths, NULL},
+    {"a slot of zeros", check_zeros, NULL},
+    {"homes", check_homes, NULL},
+    {"slots of any bytes", check_any_slots, NULL},
+    {"a refused reload", NULL, check_reload},
+    {"as from the ticket", NULL, check_examples},
 };
 
 int main(void)

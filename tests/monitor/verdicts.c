@@ -1,8 +1,9 @@
 /*
- * Routines judged by a verdict: the specification's lines under "Further, run", each cause from 1 to 20 at a known
- * place, what is let in beside it, which of two causes is answered, windows at the ends of memory, and the largest
- * ticket. What is expected stands beside each routine, by hand from the specification: the number of a cause and its
- * place, or entry, cost and stack; the other numbers stay as they are lent.
+ * Routines judged by a verdict: the specification's lines under "Further, run", each cause from 1 to 20, and 29, at a
+ * known place, what is let in beside it, which of two causes is answered, windows at the ends of memory, homes, and the
+ * largest ticket. What is expected stands beside each routine, by hand from the specification: the number of a cause
+ * and its place, or entry, cost and stack, with the home that its ticket says, $0000 where it says none; the other
+ * numbers stay as they are lent.
  */
 #include "verdicts.h"
 
@@ -28,22 +29,27 @@ static void judge(const char *name, const struct judged *r, const uint8_t *ticke
     }
 }
 
-static struct answer acceptance(uint16_t entry, uint32_t cost, uint16_t stack)
+static struct answer acceptance(uint16_t entry, uint16_t home, uint32_t cost, uint16_t stack)
 {
-    return (struct answer){.outcome = 0, .entry = entry, .cost = cost, .stack = stack, .place = LENT.place};
+    return (struct answer){
+        .outcome = 0, .entry = entry, .home = home, .cost = cost, .stack = stack, .place = LENT.place};
 }
 
 static struct answer refusal(uint32_t number, uint32_t place)
 {
-    return (struct answer){
-        .outcome = number, .entry = LENT.entry, .cost = LENT.cost, .stack = LENT.stack, .place = place};
+    struct answer a = LENT;
+
+    a.outcome = number;
+    a.place = place;
+    return a;
 }
 
-static uint8_t ticket[MOST_TICKET_BYTES + 1];
+/* With room for a byte after the end, or for two commands that are put in. */
+static uint8_t ticket[MOST_TICKET_BYTES + 2 * MARK_BYTES];
 
 static void accepted(const char *name, const struct judged *r, uint16_t entry, uint32_t cost, uint16_t stack)
 {
-    judge(name, r, ticket, ticket_of(r, ticket), acceptance(entry, cost, stack));
+    judge(name, r, ticket, ticket_of(r, ticket), acceptance(entry, r->home, cost, stack));
 }
 
 static void refused(const char *name, const struct judged *r, uint32_t number, uint32_t place)
@@ -233,8 +239,8 @@ static void named(const char *name, size_t names, uint16_t address, char first, 
 
 static void names(void)
 {
-    named("P with a name", 1, 0x8000, ' ', acceptance(0x8000, 26, 5));
-    named("a name with $7E", 1, 0x8000, 0x7e, acceptance(0x8000, 26, 5));
+    named("P with a name", 1, 0x8000, ' ', acceptance(0x8000, 0x0000, 26, 5));
+    named("a name with $7E", 1, 0x8000, 0x7e, acceptance(0x8000, 0x0000, 26, 5));
     named("two names at a mark", 2, 0x8000, ' ', refusal(3, 44));
     named("a name of another address", 1, 0x8001, ' ', refusal(3, 33));
     named("a name with $1F", 1, 0x8000, 0x1f, refusal(4, 33));
@@ -526,6 +532,146 @@ static struct judged *jsr_direct(const char *image, uint16_t start, uint32_t cos
     return moved(r, start);
 }
 
+/* With home written in its ticket, at 22; its marks are then from 25 on, and P's end is at 91. */
+static struct judged *with_home(struct judged *r, uint16_t home)
+{
+    r->says_home = true;
+    r->home = home;
+    return r;
+}
+
+/* P's code window is $8000 to $800A, its data window $0040, its stack window $01F0 to $01F4. */
+static void homes(void)
+{
+    struct judged *r;
+
+    accepted("home $FFFF", with_home(p(), 0xffff), 0x8000, 26, 5);
+    accepted("home $1234", with_home(p(), 0x1234), 0x8000, 26, 5);
+    accepted("home in the data window", with_home(p(), 0x0040), 0x8000, 26, 5);
+    accepted("home at the stack window's first byte", with_home(p(), 0x01f0), 0x8000, 26, 5);
+    accepted("home at its own first byte", with_home(p(), 0x01f3), 0x8000, 26, 5);
+    accepted("home at the stack window's last byte", with_home(p(), 0x01f4), 0x8000, 26, 5);
+    accepted("P without home", p(), 0x8000, 26, 5);
+    accepted("P with home $0000 written out", with_home(p(), 0x0000), 0x8000, 26, 5);
+    accepted("home below the code window", with_home(p(), 0x7fff), 0x8000, 26, 5);
+    refused("home at the code window's first byte", with_home(p(), 0x8000), 29, 22);
+    refused("home in the code window, not marked", with_home(p(), 0x8006), 29, 22);
+    refused("home at the code window's last byte", with_home(p(), 0x800a), 29, 22);
+    accepted("home past the code window", with_home(p(), 0x800b), 0x8000, 26, 5);
+    r = p();
+    r->code.length = 4096;
+    r->length = 4096;
+    refused("home at the last of 4,096 bytes", with_home(r, 0x8fff), 29, 22);
+    accepted("home past 4,096 bytes", with_home(r, 0x9000), 0x8000, 26, 5);
+    r = moved(pushing("\x36\x32\x39", 12, 9), 0xfffd);
+    refused("code up to $FFFF, home there", with_home(r, 0xffff), 29, 22);
+    accepted("code up to $FFFF, home $0000", with_home(r, 0x0000), 0xfffd, 12, 3);
+    accepted("code up to $FFFF, home below it", with_home(r, 0xfffc), 0xfffd, 12, 3);
+    r = moved(pushing("\x36\x32\x39", 12, 9), 0x0001);
+    refused("code at $0001, home there", with_home(r, 0x0001), 29, 22);
+    accepted("code at $0001, home $0000", with_home(r, 0x0000), 0x0001, 12, 3);
+    accepted("code at $0001, home past it", with_home(r, 0x0004), 0x0001, 12, 3);
+
+    /* no instruction but RTS leads home */
+    refused("JMP home", with_home(alone(IMAGE("\x7e\xff\xff")), 0xffff), 14, 0x8000);
+    refused("NOP, after it home", with_home(alone(IMAGE("\x01")), 0x8001), 14, 0x8000);
+    refused("JMP $0000 with home $FFFF", with_home(alone(IMAGE("\x7e\x00\x00")), 0xffff), 14, 0x8000);
+
+    /* home elsewhere lets neither code nor stack start at $0000 */
+    r = with_home(p(), 0xffff);
+    r->code.start = 0;
+    refused("code at $0000 with home $FFFF", r, 5, 0);
+    r = with_home(p(), 0xffff);
+    r->stack.start = 0;
+    refused("stack at $0000 with home $FFFF", r, 5, 10);
+
+    /* what comes after home has its place, and is judged as without it */
+    refused("home, and a mark twice", with_home(p_but(1, 0x8000, 26, 0, 3), 0xffff), 3, 36);
+    refused("home, and a mark past the code", with_home(p_but(5, 0x800b, 5, 0, 0), 0xffff), 7, 80);
+    refused("home, and an entry not marked", with_home(p_under(1, 5, 0x8002, 26), 0xffff), 18, 0x8002);
+    refused("home, and limit 25", with_home(p_under(1, 5, 0x8000, 25), 0xffff), 19, 0x8000);
+    refused("home, and a stack of 4", with_home(p_under(1, 4, 0x8000, 26), 0xffff), 20, 0x8000);
+    r = with_home(p(), 0xffff);
+    r->count = 0;
+    refused("home and no mark", r, 18, 0x8000);
+}
+
+/* The routine's ticket with a command put in at an offset. */
+static void put_in(const char *name, const struct judged *r, size_t at, const char *command, size_t bytes,
+                   struct answer wanted)
+{
+    size_t length = ticket_of(r, ticket);
+
+    memmove(ticket + at + bytes, ticket + at, length - at);
+    memcpy(ticket + at, command, bytes);
+    judge(name, r, ticket, length + bytes, wanted);
+}
+
+#define COMMAND(bytes) bytes, sizeof(bytes) - 1
+#define HOME_FFFF COMMAND("\x07\xff\xff")
+#define HOME_IN_CODE COMMAND("\x07\x80\x00")
+#define NAME_8000 COMMAND("\x06\x80\x00 A NAME~")
+#define NAME_AND_HOME COMMAND("\x06\x80\x00 A NAME~\x07\xff\xff")
+
+/* Home at once after the entry, else 3. Without home P's ticket has its marks from 22 on and its end at 88. */
+static void order_of_home(void)
+{
+    put_in("home after the entry", p(), 22, HOME_FFFF, acceptance(0x8000, 0xffff, 26, 5));
+    put_in("home first", p(), 0, HOME_FFFF, refusal(3, 0));
+    put_in("home after the code window", p(), 5, HOME_FFFF, refusal(3, 5));
+    put_in("home after the data window", p(), 10, HOME_FFFF, refusal(3, 10));
+    put_in("home before the entry", p(), 15, HOME_FFFF, refusal(3, 15));
+    put_in("home after a mark", p(), 33, HOME_FFFF, refusal(3, 33));
+    put_in("home after the last mark", p(), 88, HOME_FFFF, refusal(3, 88));
+    put_in("home after a name", p(), 33, NAME_AND_HOME, refusal(3, 44));
+    put_in("home after the end", p(), 89, HOME_FFFF, refusal(8, 89));
+    put_in("home twice", with_home(p(), 0xffff), 25, HOME_FFFF, refusal(3, 25));
+    put_in("home, and again after a mark", with_home(p(), 0xffff), 36, HOME_FFFF, refusal(3, 36));
+    put_in("home, and a name for it", with_home(p(), 0xffff), 25, COMMAND("\x06\xff\xff A NAME~"), refusal(3, 25));
+    put_in("home, a mark and its name", with_home(p(), 0xffff), 36, NAME_8000, acceptance(0x8000, 0xffff, 26, 5));
+    refused_with("home for the code window", p(), 0, 0x07, 3, 0);
+    refused_with("home for the entry", p(), 15, 0x07, 3, 15);
+    refused_with("home for a mark", p(), 33, 0x07, 3, 33);
+    refused_with("the entry for home", with_home(p(), 0xffff), 22, 0x04, 3, 22);
+
+    refused_at_length("home without its address", with_home(p(), 0xffff), 23, 2, 22);
+    refused_at_length("home without its last byte", with_home(p(), 0xffff), 24, 2, 22);
+    refused_at_length("nothing after home", with_home(p(), 0xffff), 25, 2, 25);
+    refused_with("$08 for home", with_home(p(), 0xffff), 22, 0x08, 1, 22);
+    refused_with("$FF for home", with_home(p(), 0xffff), 22, 0xff, 1, 22);
+
+    judge("2 before 3: $07 alone", p(), (const uint8_t *)"\x07", 1, refusal(2, 0));
+    put_in("2 before 3: home after the last mark, cut", p(), 88, COMMAND("\x07"), refusal(2, 88));
+    refused_at_length("2 before 29: home in code, cut", with_home(p(), 0x8000), 24, 2, 22);
+    put_in("3 before 29: home in code, before the entry", p(), 15, HOME_IN_CODE, refusal(3, 15));
+    put_in("3 before 29: home in code, after a mark", p(), 33, HOME_IN_CODE, refusal(3, 33));
+    put_in("3 before 29: home in code, the second", with_home(p(), 0xffff), 25, HOME_IN_CODE, refusal(3, 25));
+    put_in("29 of the first home, before 3 of the second", with_home(p(), 0x8000), 25, HOME_FFFF, refusal(29, 22));
+}
+
+/* 29 comes after the causes of earlier commands, and before all that comes later. */
+static void order_of_29(void)
+{
+    struct judged *r = with_home(p(), 0x8000);
+
+    r->limit = 0;
+    refused("4 of the entry before 29", r, 4, 15);
+    r = with_home(p(), 0x8000);
+    r->stack.start = 0x003c;
+    refused("6 of the stack before 29", r, 6, 10);
+    refused("29 before 3 of a mark", with_home(p_but(1, 0x8000, 26, 0, 3), 0x8000), 29, 22);
+    refused("29 before 7 of a mark", with_home(p_but(5, 0x800b, 5, 0, 0), 0x8000), 29, 22);
+    refused_at_length("29 before 2 of the end", with_home(p(), 0x8000), 91, 29, 22);
+    refused_at_length("29 before 8", with_home(p(), 0x8000), 93, 29, 22);
+    r = with_home(p(), 0x8000);
+    r->length = 10;
+    refused("29 before 9", r, 29, 22);
+    r = with_home(p(), 0x8000);
+    r->image[0] = 0x41;
+    refused("29 before 10", r, 29, 22);
+    refused("29 before 18", with_home(p_under(1, 5, 0x8002, 26), 0x8000), 29, 22);
+}
+
 /* Code windows that start at $0001, lie in page zero, or end at $FFFF. */
 static void ends_of_memory(void)
 {
@@ -706,7 +852,7 @@ static void order_of_the_whole(void)
     refused("19 before 20", p_under(1, 4, 0x8000, 25), 19, 0x8000);
 }
 
-/* 4,095 NOPs and an RTS, each marked; the code window may end at $FFFF. */
+/* 4,095 NOPs and an RTS, each marked; the code window may end at $FFFF. With home it is the longest without names. */
 static void largest(void)
 {
     static char nops[4096];
@@ -720,6 +866,10 @@ static void largest(void)
     for (uint16_t i = 0; i < 4096; i++)
         set_mark(r, i, (uint16_t)(0x8000 + i), (4095u - i) * 2 + 5, 0, 0);
     accepted("4,096 marks", r, 0x8000, 8195, 2);
+    accepted("4,096 marks and home", with_home(r, 0x7fff), 0x8000, 8195, 2);
+    refused("4,096 marks and home at the last", with_home(r, 0x8fff), 29, 22);
+    r->says_home = false;
+    r->home = 0;
     accepted("4,096 marks up to $FFFF", moved(r, 0xf000), 0xf000, 8195, 2);
     set_mark(r, 4094, 0xfffe, 6, 0, 0);
     refused("4,096 marks, 6 at the last NOP", r, 16, 0xfffe);
@@ -745,6 +895,9 @@ struct tally judge_routines(verdict_function *by, const char *name)
     two_successors();
     calls();
     ends_of_memory();
+    homes();
+    order_of_home();
+    order_of_29();
     whole();
     order();
     order_of_10();

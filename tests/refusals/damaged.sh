@@ -13,6 +13,9 @@ undamaged() {
 ticket() { patched press.tkt "$@"; }
 image() { patched press.bin "$@"; }
 
+# A home after the entry: what follows stands three bytes later.
+homed() { put_in press.tkt 22 "\\007$1"; } # ITS TWO BYTES, in octal
+
 # P's ticket, and in place of its image an S-record file of these lines. P's image is one line,
 # S10E800036BD80083239010197403979: 14 bytes follow the count, and the code window is $8000 to $800A.
 records() { # LINE..
@@ -22,7 +25,7 @@ records() { # LINE..
 damaged() { # CAUSE
     undamaged
     case $1 in
-    1) ticket 33 '\007' ;;         # no such command
+    1) ticket 33 '\377' ;;         # no such command
     2) truncate -s 88 press.tkt ;; # no end
     3) ticket 35 '\0' ;;           # two marks at $8000
     4) ticket 40 '\004' ;;         # depth 1,025 at $8001
@@ -45,5 +48,6 @@ damaged() { # CAUSE
     25) records S10E800036BD80083239010197403979 ;;            # no S9
     26) records S10E800036BD80083239010197403978 S9030000FC ;; # a checksum too low by one
     27) records S10E800136BD80083239010197403978 S9030000FC ;; # from $8001 on, so that $800B is given
+    29) homed '\200\012' ;;        # home at $800A
     esac
 }

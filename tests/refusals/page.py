@@ -13,7 +13,7 @@ from pathlib import Path
 from typing import NamedTuple
 
 PAGE = Path(__file__).resolve().parents[2] / 'docs/REFUSALS.md'
-NUMBERS = range(1, 28)
+NUMBERS = [*range(1, 28), 29]
 ITEM = re.compile(r'- \*\*(\d+)\*\* `(JUGROND_[A-Z_]+)`: ([^.]+)\. (?:Place: ([^.]+)\. )?To do: ([^.]+)\.')
 
 
@@ -43,7 +43,7 @@ def causes(text):
         if any(name == other.name for other in found.values()):
             raise ValueError(f'{name} stands twice')
         found[number] = Cause(name, words, place, to_do)
-    if sorted(found) != list(NUMBERS):
+    if sorted(found) != NUMBERS:
         raise ValueError(f'missing or not a number: {sorted(set(NUMBERS) ^ set(found))}')
     return found
 

@@ -8,6 +8,7 @@ use lib.ListN.{length, replicate}
 use Rattle.registers.specs.Registers.{startOf}
 use Rattle.registers.specs.declared.Registers.{Registers}
 use Rattle.stepper.specs.Answer.{Answer, done, RunAnswer, home, spent}
+use Rattle.stepper.specs.declared.environment.Environment.{Environment}
 use Rattle.stepper.specs.Step.{stepOf}
 use Rattle.stepper.specs.Run.{runOf}
 use Rattle.ticket.specs.Read.{refusal}
@@ -27,6 +28,10 @@ start f a b x = startOf (record { x = x; y = 0; a = a; b = b; flags = f }) 0x800
 abbrev pub regs : (a b x sp pc flags lowest : ℕ) → Registers
 regs a b x sp pc f low = record { x = x; y = 0; sp = sp; pc = pc; lowest = low; a = a; b = b; flags = f }
 
+-- document 01's home
+abbrev pub homeZero : Environment
+homeZero = record { home = 0 }
+
 pub data Case : Type 0 where
   -- a ticket, an image and the verdict
   verdict : List ℕ → List ℕ → Verdict → Case
@@ -38,7 +43,7 @@ pub data Case : Type 0 where
 abbrev pub Holds : Case → Type 0
 Holds (verdict ticket image v) = verdictOf ticket image ≡ v
 Holds (step code r a) = stepOf r (memoryWith code) .answer ≡ a
-Holds (run code r b a) = runOf r (memoryWith code) b .answer ≡ a
+Holds (run code r b a) = runOf homeZero r (memoryWith code) b .answer ≡ a
 
 abbrev pub AllHold : List Case → Type 0
 AllHold [] = Unit {0}

@@ -10,6 +10,7 @@ use output::text;
 use registers::Registers;
 use std::num::wrapping_add_u32;
 use stepper::answer::Stepped;
+use stepper::environment::Environment;
 use stepper::run;
 use stepper::step;
 
@@ -25,14 +26,14 @@ fn kept(before: &[u8], after: &[u8]) {
     }
 }
 
-// Also at PC $0000: the length is looked at before home.
+// The run begins at home: the length is looked at before it.
 fn length(mem: &mut [u8], pc: u16) {
     decimal(mem.len() as u64);
     text(b" bytes, step: ");
     stepped(step(from(pc), mem));
     decimal(mem.len() as u64);
     text(b" bytes, run: ");
-    ran(run(from(pc), mem, 100));
+    ran(run(from(pc), mem, Environment { home: pc }, 100));
 }
 
 pub fn lengths() {
@@ -146,12 +147,12 @@ fn across(name: &[u8], first: u8, second: u8, third: u8) {
     stepped(step(from(0xffff), &mut mem));
 }
 
-// A refused opcode and home come before a budget of 0.
-fn no_budget(name: &[u8], pc: u16, op: u8) {
+// Home comes before a refused opcode, and both before a budget of 0.
+fn no_budget(name: &[u8], pc: u16, op: u8, home: u16) {
     let mut mem = [0u8; 65536];
     put(&mut mem, 0x8000, op);
     text(name);
-    ran(run(from(pc), &mut mem, 0));
+    ran(run(from(pc), &mut mem, Environment { home }, 0));
 }
 
 pub fn wraps() {
@@ -160,8 +161,12 @@ pub fn wraps() {
     across(b"JMP $1234 at $FFFF: ", 0x7e, 0x12, 0x34);
     across(b"$18 $18 at $FFFF: ", 0x18, 0x18, 0);
     across(b"STOP at $FFFF: ", 0xcf, 0, 0);
-    no_budget(b"budget 0, home: ", 0, 0);
-    no_budget(b"budget 0, $41: ", 0x8000, 0x41);
-    no_budget(b"budget 0, WAI: ", 0x8000, 0x3e);
-    no_budget(b"budget 0, NOP: ", 0x8000, 0x01);
+    no_budget(b"budget 0, home: ", 0, 0, 0);
+    no_budget(b"budget 0, $41: ", 0x8000, 0x41, 0);
+    no_budget(b"budget 0, WAI: ", 0x8000, 0x3e, 0);
+    no_budget(b"budget 0, NOP: ", 0x8000, 0x01, 0);
+    no_budget(b"budget 0, $41 at home: ", 0x8000, 0x41, 0x8000);
+    no_budget(b"budget 0, WAI at home: ", 0x8000, 0x3e, 0x8000);
+    no_budget(b"budget 0, NOP at home: ", 0x8000, 0x01, 0x8000);
+    no_budget(b"budget 0, TEST at $0000, not home: ", 0, 0, 0x8000);
 }

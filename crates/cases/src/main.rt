@@ -6,6 +6,7 @@ mod bad; // memories of other lengths, empty places, and instructions that wrap
 fn main() {
     documented::cases();
     documented::lowest();
+    documented::homes();
     bad::lengths();
     bad::places();
     bad::wraps();

@@ -11,9 +11,10 @@ use lib.ListN.{length, take, drop, length-append, length-drop, take-append-drop}
 use lib.Seq.{take-at, drop-at, take-add, length-take-le}
 use borrow.Author.Tests.{ltb-true, leb-true, le-leb}
 use Rattle.commands.specs.Number.{number, digits, AllBytes}
-use Rattle.commands.specs.Rows.{CommandOperand, widthIn, sizeOf, commandRows, layoutOf, known}
+use Rattle.commands.specs.Rows.{CommandOperand, widthIn, sizeOf, commandRows, layoutOf, headerLength, known}
 use Rattle.commands.specs.Bytes.{joined, encodeOf, widthOf, operandsIn, commandOf, parseOf}
-use Rattle.commands.specs.Command.{commandByteOf, operandsOf}
+use Rattle.commands.specs.Command.{commandByteOf, stageOf, operandsOf}
+use Rattle.commands.specs.Header.{blankHeader}
 use Rattle.commands.specs.Fits.{FitsLayout, Fits}
 use Rattle.commands.specs.Fits.FitsLayout.{none, more}
 use Rattle.commands.specs.Progress.{afterOf}
@@ -22,7 +23,7 @@ use Rattle.commands.specs.declared.command.Command.the-variants as Comma
 use Rattle.commands.specs.declared.parse.ParsedCommand.the-variants.{Unknown, Cut, Found}
 use Rattle.commands.specs.declared.progress.Progress.{Progress}
 use Rattle.commands.proofs.Below.{below}
-use Rattle.commands.proofs.HeaderLaw.{Said, header-said}
+use Rattle.commands.proofs.HeaderLaw.{Said, header-law, header-said}
 use Rattle.commands.proofs.Table.{Matched, nothing, one, matched, row-size}
 use Rattle.commands.proofs.Digits.{length-digits, number-digits, number-below, digits-number, bytes-take}
 use Rattle.commands.proofs.Digits.{bytes-drop}
@@ -59,6 +60,13 @@ width-positive c = omega arith
 pub width-most : (c : Command) → widthOf c ≤ 11
 unfolding widthOf
 width-most c = omega (arith, row-size (commandByteOf c))
+
+-- none stands past the header and what comes after it
+pub stage-most : (c : Command) → stageOf c ≤ headerLength
+stage-most Command.End = omega arith
+stage-most (Command.Header c) = omega (arith, header-law blankHeader c .early)
+stage-most (Command.Mark a m) = omega arith
+stage-most (Command.Name a t) = omega arith
 
 pub after-at : (p : Progress) (c : Command) → afterOf p c .at ≡ p .at + widthOf c
 unfolding afterOf
@@ -134,6 +142,10 @@ module _ (b : ℕ) (s : List ℕ) (c : Command) where
       let p = picked (known b) (leb (sizeOf (layoutOf b)) (length s)) e in
       let q = command-parts b s (ltb-true _ _ (p .0)) in
       (cc (p .2, q .0), cc (p .2, q .1), leb-true _ _ (p .1))
+
+-- so the byte of a command that is found is the first
+pub byte-found : (b : ℕ) (s : List ℕ) (c : Command) → parseOf (b ∷ s) ≡ Found c → commandByteOf c ≡ b
+byte-found b s c e = parts b s c e .0
 
 -- nothing is read from no bytes
 none-found : (c : Command) → parseOf [] ≡ Found c → ⊥

@@ -8,16 +8,16 @@ use mathlib.Core.List.{[], _∷_, _++_}
 use lib.Dec.{leb}
 use lib.ListN.{length, take}
 use borrow.Author.Tests.{leb-true}
-use Rattle.commands.specs.Rows.{headerLength, between, layoutOf, known}
-use Rattle.commands.specs.Command.{commandByteOf, operandsOf, commandWith}
+use Rattle.commands.specs.Rows.{headerLength, requiredLength, between, layoutOf, known}
+use Rattle.commands.specs.Command.{commandByteOf, stageOf, operandsOf, commandWith}
 use Rattle.commands.specs.Header.{headerWith, headerCommands}
 use Rattle.commands.specs.Bytes.{widthOf}
-use Rattle.commands.specs.Cause.{stageOf, rangesHold}
+use Rattle.commands.specs.Cause.{rangesHold}
 use Rattle.commands.specs.inner.Sound.{headerBytes}
 use Rattle.commands.specs.declared.header.Window.{Window}
 use Rattle.commands.specs.declared.header.Header.{Header}
 use Rattle.commands.specs.declared.command.HeaderCommand.{HeaderCommand}
-use Rattle.commands.specs.declared.command.HeaderCommand.the-variants.{Code, Data, Stack, Entry}
+use Rattle.commands.specs.declared.command.HeaderCommand.the-variants.{Code, Data, Stack, Entry, Home}
 use Rattle.commands.specs.declared.command.Command.{Command}
 use Rattle.commands.specs.declared.command.Command.the-variants as Command
 
@@ -38,6 +38,8 @@ pub record HeaderLaw (h : Header) (c : HeaderCommand) : Type 0 where
       ≡ headerBytes (suc (stageOf (Command.Header c)))
   -- the code window keeps to its range
   pub small : rangesHold (Command.Header c) ≡ true → h .code .length ≤ 4096 → headerWith h c .code .length ≤ 4096
+  -- those that every header has say nothing of home
+  pub homeless : stageOf (Command.Header c) < requiredLength → headerWith h c .home ≡ h .home
 
 -- the range of a code window's length
 short : (w : Window) → rangesHold (Command.Header (Code w)) ≡ true → w .length ≤ 4096
@@ -48,13 +50,20 @@ short w e =
 
 pub header-law : (h : Header) (c : HeaderCommand) → HeaderLaw h c
 unfolding widthOf
-header-law h (Code w) = record { early = omega arith; stated = refl; wide = refl; small = λ r s. short w r }
-header-law h (Data w) = record { early = omega arith; stated = refl; wide = refl; small = λ r s. s }
-header-law h (Stack w) = record { early = omega arith; stated = refl; wide = refl; small = λ r s. s }
-header-law h (Entry a l) = record { early = omega arith; stated = refl; wide = refl; small = λ r s. s }
+header-law h (Code w) =
+    record { early = omega arith; stated = refl; wide = refl; small = λ r s. short w r; homeless = λ l. refl }
+header-law h (Data w) =
+    record { early = omega arith; stated = refl; wide = refl; small = λ r s. s; homeless = λ l. refl }
+header-law h (Stack w) =
+    record { early = omega arith; stated = refl; wide = refl; small = λ r s. s; homeless = λ l. refl }
+header-law h (Entry a l) =
+    record { early = omega arith; stated = refl; wide = refl; small = λ r s. s; homeless = λ l. refl }
+header-law h (Home a) =
+    record { early = omega arith; stated = refl; wide = refl; small = λ r s. s; homeless = λ l. absurd (omega arith) }
 
 pub header-said : (c : HeaderCommand) → Said (Command.Header c)
 header-said (Code w) = record { known-byte = refl; as-many = refl; same = refl }
 header-said (Data w) = record { known-byte = refl; as-many = refl; same = refl }
 header-said (Stack w) = record { known-byte = refl; as-many = refl; same = refl }
 header-said (Entry a l) = record { known-byte = refl; as-many = refl; same = refl }
+header-said (Home a) = record { known-byte = refl; as-many = refl; same = refl }

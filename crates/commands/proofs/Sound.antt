@@ -12,6 +12,7 @@ use borrow.Author.Tests.{ltb-true, leb-true, eqb-true, ne-eqb}
 use Rattle.lists.specs.Bit.{one}
 use Rattle.commands.specs.Rows.{headerLength}
 use Rattle.commands.specs.Bytes.{widthOf}
+use Rattle.commands.specs.Command.{stageOf}
 use Rattle.commands.specs.Progress.{initialProgress, stagedOf, markedOf, namedOf, afterOf}
 use Rattle.commands.specs.inner.Sound.{headerBytes, Sound, SoundSoFar, stopped, sound}
 use Rattle.commands.specs.Cause.{commandCauseOf}
@@ -40,53 +41,56 @@ bytes-rise : (n k : ℕ) → headerBytes n ≤ headerBytes (n + k)
 bytes-rise n zero = rw add-zero (omega arith)
 bytes-rise n (suc k) = rw (add-suc n k) (omega (arith, bytes-rise n k))
 
+bytes-up : (n m : ℕ) → n ≤ m → headerBytes n ≤ headerBytes m
+bytes-up n m l = rw (add-sub-of-le l) at (bytes-rise n (m - n))
+
 -- no more marks than the code window has bytes, and no more bytes than these marks and their names take
 pub bounds : {p : Progress} → Sound p → (p .count ≤ 4096) × (p .at ≤ headerBytes (headerLength + 1) + 22 * 4096)
 bounds {p} s =
     let c = few s in
-    let h = rw (add-sub-of-le (s .stages)) at (bytes-rise (p .stage) (headerLength + 1 - p .stage)) in
+    let h = bytes-up (p .stage) (headerLength + 1) (s .stages) in
     (c, omega (arith, s .short, h))
 
-module _ (p : Progress) (s : Sound p) (w : ℕ) (narrow : w ≤ 11) where
-  to-header : (h : Header) → p .stage < headerLength → headerBytes (p .stage) + w ≡ headerBytes (p .stage + 1)
-      → h .code .length ≤ 4096 → Sound (stagedOf p w h)
+-- of a command of stage n that may come
+module _ (p : Progress) (s : Sound p) (w n : ℕ) (narrow : w ≤ 11) (ahead : p .stage ≤ n) where
+  to-header : (h : Header) → n < headerLength → headerBytes n + w ≡ headerBytes (n + 1) → h .code .length ≤ 4096 →
+      Sound (stagedOf p w n h)
   to-header h early wide small =
-      let e = s .unmarked early in
+      let e = s .unmarked (omega arith) in
       record {
         stages = omega arith;
         unmarked = omega arith;
-        short = omega (arith, s .short, wide);
+        short = omega (arith, s .short, wide, bytes-up (p .stage) n ahead);
         small = small;
         rising = omega arith;
         named = omega (arith, impossible);
       }
 
-  to-mark : (a : ℕ) → p .stage ≡ headerLength → p .header .code .start ≤ a
-      → a < p .header .code .start + p .header .code .length → (1 ≤ p .count → p .last < a) → Sound (markedOf p w a)
+  to-mark : (a : ℕ) → n ≡ headerLength → p .header .code .start ≤ a
+      → a < p .header .code .start + p .header .code .length → (1 ≤ p .count → p .last < a) → Sound (markedOf p w n a)
   to-mark a body from to rises =
       let r : p .header .code .start + p .count ≤ a =
       ⊎-elim (λ z. omega arith) (λ o. omega (arith, s .rising o, rises o)) (eq-zero-or-pos (p .count)) in
-      omega arith
+      omega (arith, bytes-up (p .stage) n ahead)
 
-  to-name : p .stage ≡ headerLength → p .nameable ≡ true → Sound (namedOf p w)
+  to-name : n ≡ headerLength → p .nameable ≡ true → Sound (namedOf p w n)
   to-name body nameable =
       let b = ap one nameable in
       record {
-        stages = s .stages;
-        unmarked = s .unmarked;
-        short = omega (arith, s .short);
+        stages = omega arith;
+        unmarked = omega arith;
+        short = omega (arith, s .short, bytes-up (p .stage) n ahead);
         small = s .small;
         rising = s .rising;
         named = omega (arith, impossible);
       }
 
-  to-end : p .stage ≡ headerLength → headerBytes (p .stage) + w ≡ headerBytes (p .stage + 1) →
-      Sound (stagedOf p w (p .header))
+  to-end : n ≡ headerLength → headerBytes n + w ≡ headerBytes (n + 1) → Sound (stagedOf p w n (p .header))
   to-end body wide =
       record {
         stages = omega arith;
         unmarked = omega arith;
-        short = omega (arith, s .short, wide);
+        short = omega (arith, s .short, wide, bytes-up (p .stage) n ahead);
         small = s .small;
         rising = s .rising;
         named = omega (arith, impossible);
@@ -102,24 +106,26 @@ module _ (p : Progress) (s : Sound p) where
   rises : (a : ℕ) → (eqb (p .count) 0 || ltb (p .last) a) ≡ true → 1 ≤ p .count → p .last < a
   rises a e o = ltb-true (p .last) a (rw (ne-eqb (p .count) 0 (omega arith)) at e)
 
+  -- a command that is allowed does not come too late
+  not-late : (c : Command) → Allowed p c → p .stage ≤ stageOf c
+  not-late c a = in-order p c (a .ordered) .0 .ahead
+
   after : (c : Command) → Allowed p c → Sound (afterOf p c)
   unfolding afterOf
   after (Command.Header c) a =
       let l = header-law (p .header) c in
-      let o = in-order p (Command.Header c) (a .ordered) in
-      to-header p s _ (width-most (Command.Header c)) _ (omega (arith, o .0, l .early)) (rw (o .0, add-one) (l .wide))
-      (l .small (a .ranged) (s .small))
+      to-header p s _ _ (width-most (Command.Header c)) (not-late (Command.Header c) a) _ (l .early)
+      (rw add-one (l .wide)) (l .small (a .ranged) (s .small))
   after (Command.Mark m k) a =
       let o = in-order p (Command.Mark m k) (a .ordered) in
       let i = and-eq-true-iff _ _ .0 (a .placed) in
-      to-mark p s _ (width-most (Command.Mark m k)) m (o .0) (leb-true _ _ (i .0)) (ltb-true _ _ (i .1))
-      (rises m (o .1))
+      to-mark p s _ _ (width-most (Command.Mark m k)) (not-late (Command.Mark m k) a) m refl (leb-true _ _ (i .0))
+      (ltb-true _ _ (i .1)) (rises m (o .1))
   after (Command.Name m t) a =
       let o = in-order p (Command.Name m t) (a .ordered) in
-      to-name p s _ (width-most (Command.Name m t)) (o .0) (and-eq-true-iff _ _ .0 (o .1) .0)
-  after Command.End a =
-      let o = in-order p Command.End (a .ordered) in
-      to-end p s _ (width-most Command.End) (o .0) (rw (o .0) end-wide)
+      to-name p s _ _ (width-most (Command.Name m t)) (not-late (Command.Name m t) a) refl
+      (and-eq-true-iff _ _ .0 (o .1) .0)
+  after Command.End a = to-end p s _ _ (width-most Command.End) (not-late Command.End a) refl end-wide
 
 pub sound-after : (p : Progress) (c : Command) → Sound p → commandCauseOf p c ≡ 0 → Sound (afterOf p c)
 sound-after p c s e = after p s c (allowed p c e)

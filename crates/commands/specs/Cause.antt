@@ -1,24 +1,22 @@
 -- Why a command is refused after those before it: document 01's causes 3 to 7, in its table's order ("The ticket",
--- "Where a ticket stops").
+-- "Where a ticket stops"), and document 02's 29, after the window checks (e).
 -- Assumes nothing.
 use Prim.Native.Nat.{ℕ}
-use mathlib.Core.Bool.{Bool, true, cond, _&&_, _||_}
+use mathlib.Core.Bool.{Bool, true, cond, not, _&&_, _||_}
 use mathlib.Core.List.{List, [], _∷_}
 use lib.Dec.{eqb, ltb, leb}
-use Rattle.commands.specs.Rows.{CommandOperand, inRange, rowOf, layoutOf}
-use Rattle.commands.specs.Command.{commandByteOf, operandsOf, windowOf}
+use Rattle.commands.specs.Rows.{CommandOperand, inRange, rowOf, layoutOf, requiredLength}
+use Rattle.commands.specs.Command.{commandByteOf, stageOf, operandsOf, windowOf}
 use Rattle.commands.specs.Header.{pastOf, holds}
 use Rattle.commands.specs.declared.header.Window.{Window}
 use Rattle.commands.specs.declared.row.WindowStart.{WindowStart}
 use Rattle.commands.specs.declared.row.WindowStart.the-variants.{NoWindow, From}
+use Rattle.commands.specs.declared.command.HeaderCommand.{HeaderCommand}
+use Rattle.commands.specs.declared.command.HeaderCommand.the-variants.{Code, Data, Stack, Entry, Home}
 use Rattle.commands.specs.declared.command.Command.{Command}
 use Rattle.commands.specs.declared.command.Command.the-variants as Command
 use Rattle.commands.specs.declared.header.Header.{Header}
 use Rattle.commands.specs.declared.progress.Progress.{Progress}
-
--- how many commands of the header come before a command
-abbrev pub stageOf : Command → ℕ
-stageOf c = rowOf (commandByteOf c) .stage
 
 -- marks in rising address, none equal; a name at once after its mark, same address, at most one
 abbrev pub follows : Progress → Command → Bool
@@ -27,9 +25,15 @@ follows p (Command.Mark a c) = eqb (p .count) 0 || ltb (p .last) a
 follows p (Command.Name a t) = p .nameable && eqb a (p .last)
 follows p Command.End = true
 
--- 3: the header's commands once each, in their order, before all others; nothing is read after the end
+-- at a stage a command of stage n may come: the stage's own, or a later one where the commands that every header has
+-- are there
+abbrev pub mayCome : (stage n : ℕ) → Bool
+mayCome stage n = eqb stage n || (leb requiredLength stage && ltb stage n)
+
+-- 3: the header's commands in their order, before all others, $01 to $04 once each, home at most once; nothing is read
+-- after the end
 abbrev pub inOrder : Progress → Command → Bool
-inOrder p c = eqb (p .stage) (stageOf c) && follows p c
+inOrder p c = mayCome (p .stage) (stageOf c) && follows p c
 
 -- 4: each operand is in its range
 abbrev pub allInRange : List CommandOperand → List ℕ → Bool
@@ -67,6 +71,20 @@ separateFor (From least) h w = apartFrom h w
 abbrev pub separate : Header → Command → Bool
 separate h c = separateFor (rowOf (commandByteOf c) .window) h (windowOf (operandsOf c))
 
+-- 29: home lies outside the code window
+abbrev pub headerHomeOutside : Window → HeaderCommand → Bool
+headerHomeOutside code (Code w) = true
+headerHomeOutside code (Data w) = true
+headerHomeOutside code (Stack w) = true
+headerHomeOutside code (Entry a l) = true
+headerHomeOutside code (Home a) = not (holds code a)
+
+abbrev pub homeOutside : Header → Command → Bool
+homeOutside h (Command.Header c) = headerHomeOutside (h .code) c
+homeOutside h (Command.Mark a c) = true
+homeOutside h (Command.Name a t) = true
+homeOutside h Command.End = true
+
 -- 7: a mark lies in the code window
 abbrev pub inside : Header → Command → Bool
 inside h (Command.Header c) = true
@@ -78,5 +96,7 @@ inside h Command.End = true
 unfoldable pub commandCauseOf : Progress → Command → ℕ
 commandCauseOf p c =
     cond (inOrder p c)
-    (cond (rangesHold c) (cond (edgesHold c) (cond (separate (p .header) c) (cond (inside (p .header) c) 0 7) 6) 5) 4)
+    (cond (rangesHold c)
+    (cond (edgesHold c)
+    (cond (separate (p .header) c) (cond (homeOutside (p .header) c) (cond (inside (p .header) c) 0 7) 29) 6) 5) 4)
     3

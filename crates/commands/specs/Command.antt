@@ -1,12 +1,14 @@
--- What a command says: its byte and its operands, and the command of a byte and operands (document 01, "The ticket").
+-- What a command says: its byte and its operands, and the command of a byte and operands (document 01, "The ticket";
+-- document 02, e, of $07); and its place in the order.
 -- Assumes nothing.
 use Prim.Native.Nat.{ℕ}
 use mathlib.Core.List.{List, [], _∷_}
 use lib.ListN.{getD}
+use Rattle.commands.specs.Rows.{rowOf}
 use Rattle.commands.specs.declared.header.Window.{Window}
 use Rattle.commands.specs.declared.command.Claim.{Claim}
 use Rattle.commands.specs.declared.command.HeaderCommand.{HeaderCommand}
-use Rattle.commands.specs.declared.command.HeaderCommand.the-variants.{Code, Data, Stack, Entry}
+use Rattle.commands.specs.declared.command.HeaderCommand.the-variants.{Code, Data, Stack, Entry, Home}
 use Rattle.commands.specs.declared.command.Command.{Command}
 use Rattle.commands.specs.declared.command.Command.the-variants as Command
 
@@ -15,12 +17,17 @@ headerByteOf (Code w) = 0x01
 headerByteOf (Data w) = 0x02
 headerByteOf (Stack w) = 0x03
 headerByteOf (Entry a l) = 0x04
+headerByteOf (Home a) = 0x07
 
 abbrev pub commandByteOf : Command → ℕ
 commandByteOf Command.End = 0x00
 commandByteOf (Command.Header c) = headerByteOf c
 commandByteOf (Command.Mark a c) = 0x05
 commandByteOf (Command.Name a t) = 0x06
+
+-- its place in the sequence of the header's commands
+abbrev pub stageOf : Command → ℕ
+stageOf c = rowOf (commandByteOf c) .stage
 
 abbrev pub windowOperandsOf : Window → List ℕ
 windowOperandsOf w = w .start ∷ w .length ∷ []
@@ -30,6 +37,7 @@ headerOperandsOf (Code w) = windowOperandsOf w
 headerOperandsOf (Data w) = windowOperandsOf w
 headerOperandsOf (Stack w) = windowOperandsOf w
 headerOperandsOf (Entry a l) = a ∷ l .0 ∷ []
+headerOperandsOf (Home a) = a ∷ []
 
 abbrev pub operandsOf : Command → List ℕ
 operandsOf Command.End = []
@@ -54,6 +62,7 @@ commandsWith v =
     ∷ Command.Header (Entry (getD v 0 0) (record { 0 = getD v 1 0 }))
     ∷ Command.Mark (getD v 0 0) (claimOf v)
     ∷ Command.Name (getD v 0 0) (getD v 1 0)
+    ∷ Command.Header (Home (getD v 0 0))
     ∷ []
 
 abbrev pub commandWith : ℕ → List ℕ → Command

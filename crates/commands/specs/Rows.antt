@@ -1,5 +1,5 @@
 -- The table of commands: their order, which are windows, and their operands with widths and ranges (document 01, "The
--- ticket").
+-- ticket"; document 02, e, of $07).
 -- Assumes nothing.
 use Prim.Native.Nat.{ℕ, _+_}
 use mathlib.Core.Bool.{Bool, true, _&&_}
@@ -39,8 +39,9 @@ inRange (any w) v = true
 inRange (within w l m) v = between l m v
 inRange (text w) v = printable (digits w v)
 
--- `stage`: how many commands of the header come before it; `window`: whether its first two operands are a window's
--- start and length and, if so, the least address at which that window may start
+-- `stage`: its place in the sequence of the header's commands, after all of which the marks, their names and the end
+-- stand; `window`: whether its first two operands are a window's start and length and, if so, the least address at
+-- which that window may start
 pub record CommandRow : Type 0 where
   pub stage : ℕ
   pub window : WindowStart
@@ -50,7 +51,7 @@ pub record CommandRow : Type 0 where
 abbrev pub commandRows : List CommandRow
 commandRows =
     -- $00 end
-    record { stage = 4; window = NoWindow; operands = [] }
+    record { stage = 5; window = NoWindow; operands = [] }
     -- $01 code window: start, length
     ∷ record { stage = 0; window = From 1; operands = any 2 ∷ within 2 1 4096 ∷ [] }
     -- $02 data window: start, length
@@ -61,12 +62,14 @@ commandRows =
     ∷ record { stage = 3; window = NoWindow; operands = any 2 ∷ within 4 1 2000000 ∷ [] }
     -- $05 mark: address, cost, depth, need
     ∷ record {
-      stage = 4;
+      stage = 5;
       window = NoWindow;
       operands = any 2 ∷ within 4 0 2000000 ∷ within 2 0 1022 ∷ within 2 0 1022 ∷ [];
     }
     -- $06 name: address, text
-    ∷ record { stage = 4; window = NoWindow; operands = any 2 ∷ text 8 ∷ [] }
+    ∷ record { stage = 5; window = NoWindow; operands = any 2 ∷ text 8 ∷ [] }
+    -- $07 home: address
+    ∷ record { stage = 4; window = NoWindow; operands = any 2 ∷ [] }
     ∷ []
 
 abbrev pub rowOf : ℕ → CommandRow
@@ -76,9 +79,13 @@ rowOf b = getD commandRows b (record { stage = 0; window = NoWindow; operands = 
 abbrev pub layoutOf : ℕ → List CommandOperand
 layoutOf b = rowOf b .operands
 
--- how many commands a header has: all of them come before the end
+-- how many commands a header has in full: all of them come before the end
 abbrev pub headerLength : ℕ
 headerLength = rowOf 0x00 .stage
+
+-- how many of them every header has, the entry being the last: those after it may be left out
+abbrev pub requiredLength : ℕ
+requiredLength = rowOf 0x04 .stage + 1
 
 abbrev pub known : ℕ → Bool
 known b = ltb b (length commandRows)

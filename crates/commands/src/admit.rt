@@ -7,10 +7,12 @@ ghost use Rattle.commands.specs.Cause.{commandCauseOf};
 ghost use Rattle.commands.specs.Admit.{admitOf, thenOf};
 use crate::cause::cause;
 use crate::command::Command;
+use crate::command::byte_of;
 use crate::encode::width_of;
 use crate::header::Header;
 use crate::header::header_with;
 use crate::progress::Progress;
+use crate::row::row_of;
 use answers::Refusal;
 
 pub enum Admitted {
@@ -18,14 +20,14 @@ pub enum Admitted {
     Next(Progress),
 }
 
-// A command that says something of the header, or the end, leads to the next stage.
-fn staged(p: Progress, width: u32, header: Header) -> Progress
-    requires { ⌜ (p .at + width < 4294967296) × (p .stage < 255) ⌝ }
-    ensures { λ r. ⌜ r ≡ stagedOf p width header ⌝ }
+// A command that says something of the header, or the end, leads past its stage.
+fn staged(p: Progress, width: u32, stage: u8, header: Header) -> Progress
+    requires { ⌜ (p .at + width < 4294967296) × (stage < 255) ⌝ }
+    ensures { λ r. ⌜ r ≡ stagedOf p width stage header ⌝ }
 {
     Progress {
         at: p.at + width,
-        stage: p.stage + 1,
+        stage: stage + 1,
         header,
         count: p.count,
         last: p.last,
@@ -33,14 +35,14 @@ fn staged(p: Progress, width: u32, header: Header) -> Progress
     }
 }
 
-fn marked(p: Progress, width: u32, a: u16) -> Progress
+fn marked(p: Progress, width: u32, stage: u8, a: u16) -> Progress
     requires { ⌜ (p .at + width < 4294967296) × (p .count < 65535) ⌝ }
-    ensures { λ r. ⌜ r ≡ markedOf p width a ⌝ }
+    ensures { λ r. ⌜ r ≡ markedOf p width stage a ⌝ }
 {
     let header = p.header;
     Progress {
         at: p.at + width,
-        stage: p.stage,
+        stage,
         header,
         count: p.count + 1,
         last: a,
@@ -48,14 +50,14 @@ fn marked(p: Progress, width: u32, a: u16) -> Progress
     }
 }
 
-fn named(p: Progress, width: u32) -> Progress
+fn named(p: Progress, width: u32, stage: u8) -> Progress
     requires { ⌜ p .at + width < 4294967296 ⌝ }
-    ensures { λ r. ⌜ r ≡ namedOf p width ⌝ }
+    ensures { λ r. ⌜ r ≡ namedOf p width stage ⌝ }
 {
     let header = p.header;
     Progress {
         at: p.at + width,
-        stage: p.stage,
+        stage,
         header,
         count: p.count,
         last: p.last,
@@ -69,11 +71,12 @@ fn after(p: Progress, c: Command) -> Progress
 {
     let h = p.header;
     let width = width_of(c);
+    let stage = row_of(byte_of(c)).stage;
     match c {
-        Command::Header(part) => staged(p, width, header_with(h, part)),
-        Command::Mark(a, _) => marked(p, width, a),
-        Command::Name(_, _) => named(p, width),
-        Command::End => staged(p, width, h),
+        Command::Header(part) => staged(p, width, stage, header_with(h, part)),
+        Command::Mark(a, _) => marked(p, width, stage, a),
+        Command::Name(_, _) => named(p, width, stage),
+        Command::End => staged(p, width, stage, h),
     }
 }
 

@@ -1,12 +1,13 @@
-// Document 01's causes 3 to 7, each as what must hold, and the first that does not.
+// Document 01's causes 3 to 7 and document 02's 29, each as what must hold, and the first that does not.
 ghost use mathlib.Core.Path.{_≡_};
 ghost use Rattle.commands.specs.Rows.{between, printable};
 ghost use Rattle.commands.specs.Number.{digits};
-ghost use Rattle.commands.specs.Cause.{follows, inOrder, rangesHold, edgesWithin, apart, apartFrom, inside};
-ghost use Rattle.commands.specs.Cause.{commandCauseOf};
+ghost use Rattle.commands.specs.Cause.{mayCome, follows, inOrder, rangesHold, edgesWithin, apart, apartFrom};
+ghost use Rattle.commands.specs.Cause.{headerHomeOutside, homeOutside, inside, commandCauseOf};
 ghost use Rattle.commands.specs.inner.Table.{inRangeCode};
 ghost use Rattle.commands.specs.inner.WindowCause.{windowCauseOf};
 use crate::command::Command;
+use crate::command::HeaderCommand;
 use crate::command::byte_of;
 use crate::command::operands_of;
 use crate::command::window;
@@ -15,6 +16,7 @@ use crate::header::Window;
 use crate::header::holds;
 use crate::header::past;
 use crate::progress::Progress;
+use crate::row::REQUIRED_COMMANDS;
 use crate::row::TableOperand;
 use crate::row::WindowStart;
 use crate::row::row_of;
@@ -31,11 +33,18 @@ fn follows(p: Progress, c: Command) -> bool
     }
 }
 
+// The stage's own command, or a later one where every header's commands are there.
+fn may_come(stage: u8, n: u8) -> bool
+    ensures { λ r. ⌜ r ≡ mayCome stage n ⌝ }
+{
+    (stage == n) | ((REQUIRED_COMMANDS <= stage) & (stage < n))
+}
+
 // The header's commands in their order, before all others.
 fn in_order(p: Progress, c: Command) -> bool
     ensures { λ r. ⌜ r ≡ inOrder p c ⌝ }
 {
-    (p.stage == row_of(byte_of(c)).stage) & follows(p, c)
+    may_come(p.stage, row_of(byte_of(c)).stage) & follows(p, c)
 }
 
 fn between(least: u64, most: u64, v: u64) -> bool
@@ -128,6 +137,30 @@ fn window_cause(h: Header, c: Command) -> u8
     }
 }
 
+fn header_home_outside(code: Window, c: HeaderCommand) -> bool
+    ensures { λ r. ⌜ r ≡ headerHomeOutside code c ⌝ }
+{
+    match c {
+        HeaderCommand::Code(_) => true,
+        HeaderCommand::Data(_) => true,
+        HeaderCommand::Stack(_) => true,
+        HeaderCommand::Entry(_, _) => true,
+        HeaderCommand::Home(a) => !holds(code, a),
+    }
+}
+
+fn home_outside(h: Header, c: Command) -> bool
+    ensures { λ r. ⌜ r ≡ homeOutside h c ⌝ }
+{
+    let code = h.code;
+    match c {
+        Command::Header(part) => header_home_outside(code, part),
+        Command::Mark(_, _) => true,
+        Command::Name(_, _) => true,
+        Command::End => true,
+    }
+}
+
 fn inside(h: Header, c: Command) -> bool
     ensures { λ r. ⌜ r ≡ inside h c ⌝ }
 {
@@ -154,6 +187,9 @@ pub fn cause(p: Progress, c: Command) -> u8
     let number = window_cause(h, c);
     if number != 0 {
         return number;
+    }
+    if !home_outside(h, c) {
+        return 29;
     }
     if !inside(h, c) {
         return 7;

@@ -1,4 +1,4 @@
-// The commands of a ticket, and the operands of each (document 01, "The ticket").
+// The commands of a ticket, and the operands of each (document 01, "The ticket"; document 02, e, of $07).
 ghost use mathlib.Core.Path.{_≡_};
 ghost use Prim.Native.Nat.{_<_};
 ghost use lib.ListN.{length};
@@ -17,12 +17,13 @@ pub struct Claim {
     pub need: StackBytes,
 }
 
-// A command of the header. An entry has its address and the cycle limit.
+// A command of the header. An entry has its address and the cycle limit, home its address.
 pub enum HeaderCommand {
     Code(Window),
     Data(Window),
     Stack(Window),
     Entry(u16, Cycles),
+    Home(u16),
 }
 
 // A name has its address and its text, eight bytes as one number.
@@ -49,6 +50,7 @@ fn header_byte(c: HeaderCommand) -> u8
         HeaderCommand::Data(_) => 0x02,
         HeaderCommand::Stack(_) => 0x03,
         HeaderCommand::Entry(_, _) => 0x04,
+        HeaderCommand::Home(_) => 0x07,
     }
 }
 
@@ -88,6 +90,7 @@ fn header_operands(c: HeaderCommand) -> Operands
         HeaderCommand::Data(w) => window_operands(w),
         HeaderCommand::Stack(w) => window_operands(w),
         HeaderCommand::Entry(a, l) => pair(a as u64, l.0 as u64),
+        HeaderCommand::Home(a) => pair(a as u64, 0),
     }
 }
 
@@ -143,6 +146,7 @@ pub fn command_with(b: u8, v: Operands) -> Command
                 need: StackBytes(v.fourth as u16),
             },
         ),
-        _ => Command::Name(v.first as u16, v.second), // 0x06
+        0x06 => Command::Name(v.first as u16, v.second),
+        _ => Command::Header(HeaderCommand::Home(v.first as u16)), // 0x07
     }
 }

@@ -1,5 +1,5 @@
-// The header of a ticket: its three windows, its entry and its cycle limit (document 01, "The ticket", $01 to $04);
-// what a command states of it, and the commands that state all of it.
+// The header of a ticket: its three windows, its entry and its cycle limit (document 01, "The ticket", $01 to $04), and
+// home (document 02, e, $07); what a command states of it, and the commands that state all of it.
 ghost use mathlib.Core.Path.{_≡_};
 ghost use Prim.Native.Nat.{_<_};
 ghost use lib.ListN.{getD};
@@ -16,13 +16,14 @@ pub struct Window {
     pub length: u16,
 }
 
-// What $01 to $04 say.
+// What $01 to $04 say, and $07: home is the address at which the routine ends, $0000 where a ticket does not say it.
 pub struct Header {
     pub code: Window,
     pub data: Window,
     pub stack: Window,
     pub entry: u16,
     pub limit: Cycles,
+    pub home: u16,
 }
 
 impl Header {
@@ -41,6 +42,7 @@ impl Header {
         },
         entry: 0,
         limit: Cycles(0),
+        home: 0,
     };
 }
 
@@ -71,6 +73,7 @@ pub fn header_with(h: Header, c: HeaderCommand) -> Header
             after.entry = a;
             after.limit = l;
         }
+        HeaderCommand::Home(a) => after.home = a,
     }
     after
 }
@@ -88,6 +91,7 @@ pub fn header_command(h: Header, stage: u8) -> Command
         0 => Command::Header(HeaderCommand::Code(code)),
         1 => Command::Header(HeaderCommand::Data(data)),
         2 => Command::Header(HeaderCommand::Stack(stack)),
-        _ => Command::Header(HeaderCommand::Entry(h.entry, limit)), // 3
+        3 => Command::Header(HeaderCommand::Entry(h.entry, limit)),
+        _ => Command::Header(HeaderCommand::Home(h.home)), // 4
     }
 }

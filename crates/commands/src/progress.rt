@@ -6,7 +6,7 @@ use crate::row::HEADER_COMMANDS;
 
 pub struct Progress {
     pub at: u32, // the offset of the next command
-    pub stage: u8, // how many commands of the header there are; one more after the end
+    pub stage: u8, // the next place in the sequence of the header's commands; past it after the end
     pub header: Header, // a window that is still to come has length 0
     pub count: u16, // how many marks there are
     pub last: u16, // the address of the latest mark

@@ -22,7 +22,7 @@ pub enum WindowStart {
 
 // A command has at most four operands; those that it lacks have no bytes.
 pub struct TableRow {
-    pub stage: u8, // how many commands of the header come before it
+    pub stage: u8, // its place in the sequence of the header's commands
     pub window: WindowStart,
     pub first: TableOperand,
     pub second: TableOperand,
@@ -31,10 +31,12 @@ pub struct TableRow {
 }
 
 // The command bytes are those below it.
-pub const COMMANDS: u8 = 7;
+pub const COMMANDS: u8 = 8;
 
-// How many commands a header has.
-pub const HEADER_COMMANDS: u8 = 4;
+// How many commands a header has in full, and how many of them every header has.
+pub const HEADER_COMMANDS: u8 = 5;
+
+pub const REQUIRED_COMMANDS: u8 = 4;
 
 const ABSENT: TableOperand = TableOperand {
     width: 0,
@@ -129,9 +131,13 @@ pub fn row_of(b: u8) -> TableRow
             stage: HEADER_COMMANDS, window: WindowStart::NoWindow,
             first: ADDRESS, second: COST, third: STACK_BYTES, fourth: STACK_BYTES,
         },
-        _ => TableRow { // $06 name
+        0x06 => TableRow { // name
             stage: HEADER_COMMANDS, window: WindowStart::NoWindow,
             first: ADDRESS, second: TEXT, third: ABSENT, fourth: ABSENT,
+        },
+        _ => TableRow { // $07 home
+            stage: REQUIRED_COMMANDS, window: WindowStart::NoWindow,
+            first: ADDRESS, second: ABSENT, third: ABSENT, fourth: ABSENT,
         },
     }
 }

@@ -23,6 +23,7 @@ fn name(b: u8) {
         0x04 => text(b"entry"),
         0x05 => text(b"mark"),
         0x06 => text(b"name"),
+        0x07 => text(b"home"),
         _ => text(b"unknown"),
     }
 }

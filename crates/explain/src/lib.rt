@@ -34,20 +34,32 @@ fn verdict_line(x: Refusal) {
     write_all(STDOUT_FILENO, &line[0..n]);
 }
 
-// The place of 1 to 8 is an offset, from 10 on an address; 9 has none.
+// Whether a cause is found in the ticket's bytes: 1 to 8, and 29 of home.
+fn of_ticket(number: u8) -> bool {
+    (number < 9) | (number == 29)
+}
+
+// Whether it is found in an S-record file.
+pub fn of_file(number: u8) -> bool {
+    (25 <= number) & (number <= 27)
+}
+
+// The place in a ticket is an offset, from 10 to 20 an address; 9 has none.
 fn place_label(x: Refusal) {
     // An offset fits 16 bits. A ticket's file has at most 65,536 bytes, so only the end of one that long would not: but
-    // where the place is the end, the file stops between two commands after 22 + 11 n bytes, which is never 65,536.
+    // where the place is the end, the file stops between two commands after 22 + 11 n bytes, with home after 25 + 11 n,
+    // and neither is ever 65,536.
     let place = (x.place % 65536) as u16;
-    if x.number < 9 {
+    if of_ticket(x.number) {
         word(b" at offset $", place);
+        return;
     }
     if 9 < x.number {
         word(b" at $", place);
     }
 }
 
-// The place of 25 to 27 is a line, counted from 1, but for a byte that is never given.
+// The place in an S-record file is a line, counted from 1, but for a byte that is never given.
 fn line_label(x: Refusal) {
     if x.place != 0 {
         text(b" at line ");
@@ -57,10 +69,10 @@ fn line_label(x: Refusal) {
 
 fn cause_line(x: Refusal) {
     decimal(x.number as u64);
-    if x.number < 25 {
-        place_label(x);
-    } else {
+    if of_file(x.number) {
         line_label(x);
+    } else {
+        place_label(x);
     }
     text(b": ");
     words(x.number);

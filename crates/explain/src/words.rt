@@ -39,6 +39,7 @@ pub fn words(number: u8) {
         ),
         26 => text(b"the line's checksum is wrong"),
         27 => text(b"a byte is outside the code window, given twice or never given"),
+        29 => text(b"home lies inside the code window"),
         _ => {}
     }
 }
@@ -47,13 +48,13 @@ pub fn words(number: u8) {
 pub fn to_do(number: u8) {
     match number {
         1 => text(
-            b"put a command's byte, $00 to $06, here; where it looks like an operand, count the bytes of the command before it",
+            b"put a command's byte, $00 to $07, here; where it looks like an operand, count the bytes of the command before it",
         ),
         2 => text(
             b"add what is missing, the end ($00) or the command's last bytes; see whether the file was cut",
         ),
         3 => text(
-            b"put $01 to $04 first, once each and in this order; then the marks in rising address, none twice, each with at most one name, at once after it and with its address; then the end",
+            b"put $01 to $04 first, once each and in this order; home ($07), where the ticket says it, once and at once after the entry; then the marks in rising address, none twice, each with at most one name, at once after it and with its address; then the end",
         ),
         4 => text(
             b"keep to the ranges: length of code 1 to 4,096, of data 0 to 8,192, of stack 2 to 1,024; limit 1 to 2,000,000; cost up to 2,000,000; depth and need up to 1,022; each byte of a name $20 to $7E",
@@ -96,6 +97,9 @@ pub fn to_do(number: u8) {
         26 => text(b"have the file written again; see whether a line was changed by hand"),
         27 => text(
             b"give each byte of the code window once and no other: leave out what is not the routine's code, fill gaps, or correct the code window's start or length",
+        ),
+        29 => text(
+            b"give an address outside the code window, or leave home ($07) out of the ticket for $0000",
         ),
         _ => {}
     }

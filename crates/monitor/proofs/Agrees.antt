@@ -9,7 +9,7 @@ use lib.Dec.{eqb}
 use lib.ListN.{length, getD}
 use borrow.Author.Tests.{eq-eqb}
 use Rattle.stepper.specs.Step.{didOf, stepOf}
-use Rattle.stepper.specs.Run.{runOf}
+use Rattle.stepper.specs.Run.{AfterRun, runOf}
 use Rattle.monitor.specs.RegisterBytes.{registerSize, unpacked}
 use Rattle.monitor.specs.StepperCalls.{StepperCall, stepperCall, ofStep, ofRun, stepBytesOf, runBytesOf}
 use Rattle.monitor.proofs.RegisterRoundTrip.{packed-unpacked}
@@ -30,21 +30,25 @@ module _ (c p : ℕ) (rs m : List ℕ) (h : length rs ≡ registerSize) where
 abbrev pub uncounted : StepperCall → StepperCall
 uncounted a = stepperCall (a .outcome) 0 (a .place) (a .registers) (a .memory)
 
-module _ (c p : ℕ) (rs m : List ℕ) (budget : ℕ) (h : length rs ≡ registerSize) where
+module _ (c p : ℕ) (rs m : List ℕ) (home budget : ℕ) (h : length rs ≡ registerSize) where
+  -- what the stepper's run comes to
+  abbrev w : AfterRun
+  w = runOf (record { home = home }) (unpacked rs) m budget
+
   pub run-agrees : length m ≡ 65536
-      → runBytesOf c p rs m budget
-      ≡ ofRun (runOf (unpacked rs) m budget .answer) p (runOf (unpacked rs) m budget .memory)
+      → runBytesOf c p rs m home budget
+      ≡ ofRun (w .answer) p (w .memory)
   unfolding runBytesOf
   run-agrees g = simp (eq-eqb _ _ h, eq-eqb _ _ g)
 
   run-by : ((i : ℕ) → getD rs i 0 < 256) → (b : Bool) → eqb (length m) 65536 ≡ b
-      → uncounted (runBytesOf c p rs m budget)
-      ≡ uncounted (ofRun (runOf (unpacked rs) m budget .answer) p (runOf (unpacked rs) m budget .memory))
+      → uncounted (runBytesOf c p rs m home budget)
+      ≡ uncounted (ofRun (w .answer) p (w .memory))
   unfolding runBytesOf runOf
   run-by bytes true e = simp (eq-eqb _ _ h, e)
   run-by bytes false e = simp (eq-eqb _ _ h, e, packed-unpacked rs bytes h)
 
   pub run-agrees-uncounted : ((i : ℕ) → getD rs i 0 < 256)
-      → uncounted (runBytesOf c p rs m budget)
-      ≡ uncounted (ofRun (runOf (unpacked rs) m budget .answer) p (runOf (unpacked rs) m budget .memory))
+      → uncounted (runBytesOf c p rs m home budget)
+      ≡ uncounted (ofRun (w .answer) p (w .memory))
   run-agrees-uncounted bytes = run-by bytes (eqb (length m) 65536) refl

@@ -26,7 +26,7 @@ module _ (rs m : List ℕ) (h : length rs ≡ registerSize) (g : length m ≡ 65
   unfolding stepBytesOf
   steps a n = simp (eq-eqb _ _ h, eq-eqb _ _ g, a, n, e)
 
-  pub runs : (b : ℕ) {a : RunAnswer} → a ≡ runOf r m b .answer → m′ ≡ runOf r m b .memory
-      → ofRun a p m′ ≡ runBytesOf c p rs m b
+  pub runs : (home b : ℕ) {a : RunAnswer} → let w = runOf (record { home = home }) r m b in
+      a ≡ w .answer → m′ ≡ w .memory → ofRun a p m′ ≡ runBytesOf c p rs m home b
   unfolding runBytesOf
-  runs b a n = simp (eq-eqb _ _ h, eq-eqb _ _ g, a, n, e)
+  runs home b a n = simp (eq-eqb _ _ h, eq-eqb _ _ g, a, n, e)

@@ -6,13 +6,13 @@ use native.Mathlib.Omega.{arith}
 use lib.ListN.{length}
 use Rattle.verdict.specs.declared.Certificate.{Certificate}
 use Rattle.monitor.proofs.RegisterRoundTrip.{halves}
-use Rattle.monitor.specs.Slot.{slotOf, headerIn, certificateIn}
+use Rattle.monitor.specs.Slot.{slotSize, slotOf, headerIn, certificateIn}
 
 long-halves : (w : ℕ) → w / 65536 * 65536 + w % 65536 ≡ w
 long-halves w = omega arith
 
 module _ (c : Certificate) where
-  pub slot-length : length (slotOf c) ≡ 24
+  pub slot-length : length (slotOf c) ≡ slotSize
   unfolding slotOf
   slot-length = refl
 

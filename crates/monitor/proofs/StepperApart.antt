@@ -14,6 +14,7 @@ use Rattle.stepper.specs.declared.answer.Stepped.{Stepped}
 use Rattle.stepper.specs.declared.answer.Stepped.the-variants as Stepped
 use Rattle.stepper.specs.declared.answer.Ran.{Ran}
 use Rattle.stepper.specs.declared.answer.Ran.the-variants as Ran
+use Rattle.stepper.specs.declared.environment.Environment.{Environment}
 use Rattle.stepper.specs.Answer.{Answer, answerOf, ranOf}
 use Rattle.stepper.specs.Step.{stepOf}
 use Rattle.stepper.specs.Run.{runOf}
@@ -27,7 +28,7 @@ abbrev pub FromStep : Stepped → Type 0
 FromStep a = (r : Registers) × (m : List ℕ) × (answerOf a ≡ stepOf r m .answer)
 
 abbrev pub FromRun : Ran → Type 0
-FromRun a = (r : Registers) × (m : List ℕ) × (b : ℕ) × (ranOf a ≡ runOf r m b .answer)
+FromRun a = (env : Environment) × (r : Registers) × (m : List ℕ) × (b : ℕ) × (ranOf a ≡ runOf env r m b .answer)
 
 abbrev refusalFrom : StepperCall → Refusal
 refusalFrom a = record { number = a .outcome; place = a .place }
@@ -61,7 +62,7 @@ module _ (c p : ℕ) (rs m : List ℕ) where
   ran-back (Ran.Home q k) g = ap (λ (r : Registers). Ran.Home r k) (unpacked-packed q)
   ran-back (Ran.Spent q k) g = ap (λ (r : Registers). Ran.Spent r k) (unpacked-packed q)
   ran-back (Ran.Refused q k x) g =
-      let n = subst RunPlaced (sym (g .3)) (run-placed (g .0) (g .1) (g .2)) in
+      let n = subst RunPlaced (sym (g .4)) (run-placed (g .0) (g .1) (g .2) (g .3)) in
       simp (ne-eqb (x .number) 0 (λ z. omega (arith, z, n .0)), ne-eqb (x .number) 100 (λ z. omega (arith, z, n .1)))
       (ap (λ (r : Registers). Ran.Refused r k x) (unpacked-packed q))
 

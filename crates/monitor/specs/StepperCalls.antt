@@ -1,5 +1,6 @@
 -- What a C call comes to: its outcome number, what it answers beside it, and the lent bytes afterwards, all by the
--- stepper's own definitions (document 01, "The machine": the press monitor is written in C).
+-- stepper's own definitions (document 01, "The machine": the press monitor is written in C; document 02, e: a run is
+-- given home).
 -- Assumes nothing.
 use Prim.Native.Nat.{ℕ}
 use mathlib.Core.Bool.{Bool, cond, _&&_}
@@ -7,7 +8,7 @@ use mathlib.Core.List.{List}
 use lib.Dec.{eqb}
 use lib.ListN.{length}
 use Rattle.registers.specs.Registers.{resetOf}
-use Rattle.stepper.specs.Answer.{Answer, done, refused, RunAnswer, home, spent, refused as runRefused}
+use Rattle.stepper.specs.Answer.{Answer, done, refused, RunAnswer, home as runHome, spent, refused as runRefused}
 use Rattle.stepper.specs.Step.{stepOf}
 use Rattle.stepper.specs.Run.{runOf}
 use Rattle.monitor.specs.RegisterBytes.{registerSize, packed, unpacked}
@@ -32,7 +33,7 @@ ofStep (refused n at) c p rs m = stepperCall n c at rs m
 -- of a run: each answer holds the cycles and the registers reached, a refusal on the way too. Document 01 has no number
 -- for spent; 100 lies past its refusals
 abbrev pub ofRun : RunAnswer → (p : ℕ) (m : List ℕ) → StepperCall
-ofRun (home q k) p m = stepperCall 0 (k .0) p (packed q) m
+ofRun (runHome q k) p m = stepperCall 0 (k .0) p (packed q) m
 ofRun (spent q k) p m = stepperCall 100 (k .0) p (packed q) m
 ofRun (runRefused n at q k) p m = stepperCall n (k .0) at (packed q) m
 
@@ -47,8 +48,10 @@ ifSized c rs m a = cond (sized rs m) a (stepperCall 21 c 0 rs m)
 unfoldable pub stepBytesOf : (cycles place : ℕ) (registers memory : List ℕ) → StepperCall
 stepBytesOf c p rs m = let d = stepOf (unpacked rs) m in ifSized c rs m (ofStep (d .answer) c p rs (d .memory))
 
-unfoldable pub runBytesOf : (cycles place : ℕ) (registers memory : List ℕ) (budget : ℕ) → StepperCall
-runBytesOf c p rs m budget = let d = runOf (unpacked rs) m budget in ifSized c rs m (ofRun (d .answer) p (d .memory))
+-- the environment of a run: in C its parts are numbers
+unfoldable pub runBytesOf : (cycles place : ℕ) (registers memory : List ℕ) (home budget : ℕ) → StepperCall
+runBytesOf c p rs m home budget =
+    let d = runOf (record { home = home }) (unpacked rs) m budget in ifSized c rs m (ofRun (d .answer) p (d .memory))
 
 -- a reset is lent no memory
 pub record ResetCall : Type 0 where

@@ -6,7 +6,7 @@ ghost use Prim.Native.Nat.{ℕ};
 ghost use lib.ListN.{length};
 ghost use Rattle.registers.specs.Registers.{dataOf};
 ghost use Rattle.monitor.specs.RegisterBytes.{registerSize, unpacked};
-ghost use Rattle.monitor.specs.inner.Replies.{replyNumber, replyPlace};
+ghost use Rattle.monitor.specs.inner.Replies.{replyNumber, replyPlace, startReplied};
 ghost use Rattle.monitor.specs.RoutineCalls.{startCall, ofStarted, startBytesOf};
 use crate::register_bytes::REGISTER_BYTES;
 use crate::register_bytes::pack;
@@ -24,6 +24,12 @@ pub enum RoutineReply {
     Refused(Refusal),
 }
 
+// Of a start: home, or a refusal.
+pub enum StartReply {
+    Started(u16),
+    NotStarted(Refusal),
+}
+
 // Only a refusal writes the place.
 pub fn answer(a: RoutineReply, place: &mut u32) -> u32
     ensures { λ n. ⌜ (n ≡ replyNumber a) × (now (place .exit) ≡ replyPlace a (now (place .entry))) ⌝ }
@@ -31,6 +37,23 @@ pub fn answer(a: RoutineReply, place: &mut u32) -> u32
     match a {
         RoutineReply::Done => DONE,
         RoutineReply::Refused(x) => {
+            *place = x.place;
+            x.number as u32
+        }
+    }
+}
+
+// A start writes home, a refusal its place.
+pub fn answer_start(a: StartReply, home: &mut u16, place: &mut u32) -> u32
+    ensures { λ n. ⌜ ((rs m : List ℕ) → startCall n (now (home .exit)) (now (place .exit)) rs m
+        ≡ startReplied a (now (home .entry)) (now (place .entry)) rs m) ⌝ }
+{
+    match a {
+        StartReply::Started(h) => {
+            *home = h;
+            DONE
+        }
+        StartReply::NotStarted(x) => {
             *place = x.place;
             x.number as u32
         }
@@ -53,27 +76,27 @@ pub fn data_in(regs: &[u8]) -> Data
 }
 
 // The start's registers are stored; a refusal stores nothing.
-pub fn stored(s: Started, regs: &mut [u8]) -> RoutineReply
+pub fn stored(s: Started, regs: &mut [u8]) -> StartReply
     requires { ⌜ length (now regs) ≡ registerSize ⌝ }
-    ensures { λ a. ⌜ ((p : ℕ) (m : List ℕ) → startCall (replyNumber a) (replyPlace a p) (now (regs .exit)) m
-        ≡ ofStarted s p (now (regs .entry)) m) ⌝ }
+    ensures { λ a. ⌜ ((h p : ℕ) (m : List ℕ) → startReplied a h p (now (regs .exit)) m
+        ≡ ofStarted s h p (now (regs .entry)) m) ⌝ }
 {
     match s {
-        Started::At(q) => {
+        Started::At(q, home) => {
             pack(q, regs);
-            RoutineReply::Done
+            StartReply::Started(home)
         }
-        Started::Refused(x) => RoutineReply::Refused(x),
+        Started::Refused(x) => StartReply::NotStarted(x),
     }
 }
 
 // Judges a routine and, where it is accepted, starts it.
-pub fn start_on(ticket: &[u8], image: &[u8], regs: &mut [u8], mem: &mut [u8]) -> RoutineReply
-    ensures { λ a. ⌜ ((p : ℕ) → startCall (replyNumber a) (replyPlace a p) (now (regs .exit)) (now (mem .exit))
-        ≡ startBytesOf p (now (ticket .entry)) (now (image .entry)) (now (regs .entry)) (now (mem .entry))) ⌝ }
+pub fn start_on(ticket: &[u8], image: &[u8], regs: &mut [u8], mem: &mut [u8]) -> StartReply
+    ensures { λ a. ⌜ ((h p : ℕ) → startReplied a h p (now (regs .exit)) (now (mem .exit))
+        ≡ startBytesOf h p (now (ticket .entry)) (now (image .entry)) (now (regs .entry)) (now (mem .entry))) ⌝ }
 {
     if regs.len() != REGISTER_BYTES {
-        return RoutineReply::Refused(refuse(21, 0));
+        return StartReply::NotStarted(refuse(21, 0));
     }
     let d = data_in(regs);
     stored(start_routine(ticket, image, d, mem), regs)

@@ -1,11 +1,11 @@
-// The slot that a routine is judged into once, and started from again and again: 24 bytes, high byte first. An inner
+// The slot that a routine is judged into once, and started from again and again: 26 bytes, high byte first. An inner
 // module of the C calls.
 ghost use mathlib.Core.Path.{_≡_};
 ghost use Prim.Native.Nat.{ℕ, _+_, _<_};
 ghost use lib.ListN.{length};
-ghost use Rattle.monitor.specs.inner.Replies.{replyNumber, replyPlace};
-ghost use Rattle.monitor.specs.RoutineCalls.{startCall, certifyCall, certifyBytesOf, startSlotOf};
-ghost use Rattle.monitor.specs.Slot.{slotOf, windowIn, headerIn};
+ghost use Rattle.monitor.specs.inner.Replies.{replyNumber, replyPlace, startReplied};
+ghost use Rattle.monitor.specs.RoutineCalls.{certifyCall, certifyBytesOf, startSlotOf};
+ghost use Rattle.monitor.specs.Slot.{slotSize, slotOf, windowIn, headerIn};
 ghost use Rattle.monitor.specs.inner.Put.{putWindow};
 use crate::big_endian::long_in;
 use crate::big_endian::put_long;
@@ -13,6 +13,7 @@ use crate::big_endian::put_word;
 use crate::big_endian::word_in;
 use crate::register_bytes::REGISTER_BYTES;
 use crate::routine_calls::RoutineReply;
+use crate::routine_calls::StartReply;
 use crate::routine_calls::data_in;
 use crate::routine_calls::stored;
 use answers::refuse;
@@ -23,6 +24,8 @@ use verdict::Certificate;
 use verdict::Certification;
 use verdict::certify;
 use verdict::start;
+
+const SLOT_BYTES: usize = 26;
 
 fn window_in(slot: &[u8], at: usize) -> Window
     requires { ⌜ at + 3 < length (now slot) ⌝ }
@@ -35,7 +38,7 @@ fn window_in(slot: &[u8], at: usize) -> Window
 }
 
 fn header_in(slot: &[u8]) -> Header
-    requires { ⌜ length (now slot) ≡ 24 ⌝ }
+    requires { ⌜ length (now slot) ≡ slotSize ⌝ }
     ensures { λ h. ⌜ h ≡ headerIn (now (slot .entry)) ⌝ }
 {
     Header {
@@ -44,6 +47,7 @@ fn header_in(slot: &[u8]) -> Header
         stack: window_in(slot, 8),
         entry: word_in(slot, 12),
         limit: Cycles(long_in(slot, 14)),
+        home: word_in(slot, 24),
     }
 }
 
@@ -57,7 +61,7 @@ fn put_window(slot: &mut [u8], at: usize, w: Window)
 }
 
 fn put_slot(c: Certificate, slot: &mut [u8])
-    requires { ⌜ length (now slot) ≡ 24 ⌝ }
+    requires { ⌜ length (now slot) ≡ slotSize ⌝ }
     ensures { λ _. ⌜ now (slot .exit) ≡ slotOf c ⌝ }
 {
     let h = c.header;
@@ -71,6 +75,7 @@ fn put_slot(c: Certificate, slot: &mut [u8])
     put_long(slot, 14, limit.0);
     put_long(slot, 18, cost.0);
     put_word(slot, 22, stack.0);
+    put_word(slot, 24, h.home);
 }
 
 // Judges a routine and, where it is accepted, fills the slot.
@@ -78,7 +83,7 @@ pub fn certify_into(ticket: &[u8], image: &[u8], slot: &mut [u8]) -> RoutineRepl
     ensures { λ a. ⌜ ((p : ℕ) → certifyCall (replyNumber a) (replyPlace a p) (now (slot .exit))
         ≡ certifyBytesOf p (now (ticket .entry)) (now (image .entry)) (now (slot .entry))) ⌝ }
 {
-    if slot.len() != 24 {
+    if slot.len() != SLOT_BYTES {
         return RoutineReply::Refused(refuse(21, 0));
     }
     match certify(ticket, image) {
@@ -91,15 +96,15 @@ pub fn certify_into(ticket: &[u8], image: &[u8], slot: &mut [u8]) -> RoutineRepl
 }
 
 // Starts the routine that the slot was filled for, without judging it.
-pub fn start_from(slot: &[u8], image: &[u8], regs: &mut [u8], mem: &mut [u8]) -> RoutineReply
-    ensures { λ a. ⌜ ((p : ℕ) → startCall (replyNumber a) (replyPlace a p) (now (regs .exit)) (now (mem .exit))
-        ≡ startSlotOf p (now (slot .entry)) (now (image .entry)) (now (regs .entry)) (now (mem .entry))) ⌝ }
+pub fn start_from(slot: &[u8], image: &[u8], regs: &mut [u8], mem: &mut [u8]) -> StartReply
+    ensures { λ a. ⌜ ((h p : ℕ) → startReplied a h p (now (regs .exit)) (now (mem .exit))
+        ≡ startSlotOf h p (now (slot .entry)) (now (image .entry)) (now (regs .entry)) (now (mem .entry))) ⌝ }
 {
-    if slot.len() != 24 {
-        return RoutineReply::Refused(refuse(21, 0));
+    if slot.len() != SLOT_BYTES {
+        return StartReply::NotStarted(refuse(21, 0));
     }
     if regs.len() != REGISTER_BYTES {
-        return RoutineReply::Refused(refuse(21, 0));
+        return StartReply::NotStarted(refuse(21, 0));
     }
     let d = data_in(regs);
     stored(start(header_in(slot), image, d, mem), regs)

@@ -14,13 +14,14 @@ use registers::Cycles;
 use registers::Registers;
 use stepper::answer::Ran;
 use stepper::answer::Stepped;
+use stepper::environment::Environment;
 
 // A reset or a step is done, or a run is home.
 pub const DONE: u32 = 0;
 
 pub const BAD_LENGTH: u32 = 21;
 
-// Past the numbers of document 01's refusals, which go to 24.
+// Past the numbers of the papers' refusals, which go to 37.
 const SPENT: u32 = 100;
 
 // A run refused on its way: the refusal's number and place, and the cycles before it.
@@ -73,9 +74,9 @@ pub fn step_on(regs: &mut [u8], mem: &mut [u8]) -> StepperReply
 }
 
 // Every answer of a run holds the registers reached, a refusal on the way too.
-pub fn run_on(regs: &mut [u8], mem: &mut [u8], budget: u32) -> StepperReply
+pub fn run_on(regs: &mut [u8], mem: &mut [u8], home: u16, budget: u32) -> StepperReply
     ensures { λ a. ⌜ ((c p : ℕ) → stepperReplied a c p (now (regs .exit)) (now (mem .exit))
-        ≡ runBytesOf c p (now (regs .entry)) (now (mem .entry)) budget) ⌝ }
+        ≡ runBytesOf c p (now (regs .entry)) (now (mem .entry)) home budget) ⌝ }
 {
     if regs.len() != REGISTER_BYTES {
         return StepperReply::Refused(BAD_LENGTH, 0);
@@ -84,7 +85,8 @@ pub fn run_on(regs: &mut [u8], mem: &mut [u8], budget: u32) -> StepperReply
         return StepperReply::Refused(BAD_LENGTH, 0); // before home is looked at
     }
     let r = unpack(regs);
-    match stepper::run(r, mem, budget) {
+    let env = Environment { home };
+    match stepper::run(r, mem, env, budget) {
         Ran::Home(q, k) => reached(q, regs, StepperReply::Done(DONE, k)),
         Ran::Spent(q, k) => reached(q, regs, StepperReply::Done(SPENT, k)),
         Ran::Refused(q, k, x) => {

@@ -12,7 +12,7 @@ use Rattle.rules.specs.Rules.{Accepted}
 use Rattle.stepper.specs.Flow.{flowOf}
 use Rattle.stepper.specs.Trace.{Event, eventAt, total, Along, stay, then}
 use Rattle.rules.specs.InUse.{inUseAfter}
-use Rattle.rules.specs.Claim.{topOf, WithinNeed, Keeps, Safe}
+use Rattle.rules.specs.Claim.{topOf, environmentOf, WithinNeed, Keeps, Safe}
 use Rattle.stepper.proofs.Lowest.{done-lowest, below-smaller}
 use Rattle.rules.proofs.Obeys.{busy}
 use Rattle.rules.proofs.Ready.{Ready, Arrived, Stepped, under-top, free, not-home, one-step}
@@ -22,8 +22,8 @@ pub record Course (f : Fields) (need : ℕ) (r : Registers) (m : List ℕ) (used
   pub events : List Event
   pub last : Registers
   pub memory : List ℕ
-  pub along : Along r m events last memory
-  pub home : last .pc ≡ 0
+  pub along : Along (environmentOf f) r m events last memory
+  pub home : last .pc ≡ f .header .home
   pub in-time : total events ≤ p
   pub empty : last .sp ≡ topOf f
   pub safe : Safe f need used events
@@ -32,7 +32,7 @@ module _ {f : Fields} {image : List ℕ} (A : Accepted f image) where
   abbrev Near : ℕ → Type 0
   Near sp = WithinNeed f (A .start .need .0) sp
 
-  module _ (r : Registers) (m : List ℕ) (used : List (List ℕ)) (p : ℕ) (away : r .pc ≡ 0 → ⊥)
+  module _ (r : Registers) (m : List ℕ) (used : List (List ℕ)) (p : ℕ) (away : r .pc ≡ f .header .home → ⊥)
       (S : Stepped A r m used p) (low : Near (r .lowest)) where
     abbrev event : Event
     event = eventAt r m (S .registers) (S .stores) (S .cycles)

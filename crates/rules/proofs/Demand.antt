@@ -12,7 +12,7 @@ use Rattle.answers.specs.declared.Verdict.the-variants.{Accept}
 use Rattle.rules.specs.Rules.{Accepted, Certified}
 use Rattle.rules.specs.Checks.{verdictOf}
 use Rattle.rules.proofs.Exact.{accepts-exactly}
-use Rattle.rules.specs.Claim.{homePair, Demand3}
+use Rattle.rules.specs.Claim.{environmentOf, homePair, Demand3}
 use Rattle.rules.proofs.Only.{only}
 use Rattle.rules.proofs.Budget.{run-home, run-stops}
 use Rattle.rules.proofs.RunLowest.{run-near}
@@ -33,11 +33,11 @@ comes-home f image A d m L =
       in-time = c .in-time;
       empty = c .empty;
       safe = c .safe;
-      covered = run-home (L .whole) (c .along) (c .home);
-      uncovered = run-stops refl (L .whole) (c .along);
+      covered = run-home (environmentOf f) (L .whole) (c .along) (c .home);
+      uncovered = run-stops (environmentOf f) refl (L .whole) (c .along);
       run-lowest =
-          run-near f (A .start .need .0) (homePair f ∷ []) refl (L .whole) (c .along) (c .home) (c .safe)
-          (start-near f image A);
+          run-near f (environmentOf f) (A .start .need .0) (homePair f ∷ []) refl (L .whole) (c .along) (c .home)
+          (c .safe) (start-near f image A);
       home-lowest = trace-lowest (c .along);
     }
 

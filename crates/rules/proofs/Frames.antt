@@ -29,7 +29,7 @@ pub record Over (f : Fields) (need : ℕ) (m : List ℕ) (b : ℕ) (u : Frame) :
 
 -- over the base of the routine that runs, the innermost first; home is the last
 abbrev pub Stacked : Fields → ℕ → List ℕ → ℕ → List Frame → Type 0
-Stacked f need m b [] = (b + 2 ≡ topOf f) × HoldsWord m b 0
+Stacked f need m b [] = (b + 2 ≡ topOf f) × HoldsWord m b (f .header .home)
 Stacked f need m b (u ∷ us) = Over f need m b u × Stacked f need m (u .base) us
 
 -- the cycles that are to come after the return

@@ -16,3 +16,4 @@ pub mod Only
 pub mod Budget
 pub mod RunLowest
 pub mod Demand
+pub mod OldTicket

@@ -5,6 +5,7 @@ use mathlib.Core.Path.{_≡_, refl, sym, _∙_}
 use mathlib.Core.List.{List}
 use Rattle.registers.specs.declared.Registers.{Registers}
 use Rattle.memory.specs.Memory.{Store}
+use Rattle.stepper.specs.declared.environment.Environment.{Environment}
 use Rattle.stepper.specs.Step.{did}
 use Rattle.stepper.specs.Trace.{Event, Along, stay, then}
 
@@ -13,8 +14,8 @@ parts : {q q′ : Registers} {ws ws′ : List Store} {k k′ : ℕ} → did q ws
     (q ≡ q′) × (ws ≡ ws′) × (k ≡ k′)
 parts e = (cc, cc, cc)
 
-pub only : {r : Registers} {m : List ℕ} {evs evs′ : List Event} {e e′ : Registers} {n n′ : List ℕ} → Along r m evs e n →
-    e .pc ≡ 0 → Along r m evs′ e′ n′ → e′ .pc ≡ 0
+pub only : {env : Environment} {r : Registers} {m : List ℕ} {evs evs′ : List Event} {e e′ : Registers} {n n′ : List ℕ}
+    → Along env r m evs e n → e .pc ≡ env .home → Along env r m evs′ e′ n′ → e′ .pc ≡ env .home
     → (evs′ ≡ evs) × (e′ ≡ e) × (n′ ≡ n)
 only stay h stay h′ = (refl, refl, refl)
 only stay h (then away d a) h′ = absurd (away h)

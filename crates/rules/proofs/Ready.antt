@@ -46,7 +46,7 @@ pub record Ready {f : Fields} {image : List ℕ} (A : Accepted f image) (r : Reg
   pub cost : claim .cost .0 + owed frames ≤ p
 
 pub record Arrived (f : Fields) (r : Registers) : Type 0 where
-  pub pc : r .pc ≡ 0
+  pub pc : r .pc ≡ f .header .home
   pub sp : r .sp ≡ topOf f
 
 -- a step was done, and `left` cycles are enough for the rest
@@ -192,7 +192,7 @@ module _ {f : Fields} {image : List ℕ} {A : Accepted f image} {r : Registers} 
   back : (us : List Frame) → Stacked f (A .start .need .0) m (R .base) us → used ≡ pairs (R .base) us
       → (q : Registers) → q .pc ≡ wordAt m (wrappingAdd (R .base) 1) → q .sp ≡ R .base + 2 →
       Arrived f q ⊎ Ready A q m (tail used) (owed us)
-  back [] S U q pc sp = inl (record { pc = pc ∙ word-holds m (R .base) 0 small (S .1); sp = sp ∙ S .0 })
+  back [] S U q pc sp = inl (record { pc = pc ∙ word-holds m (R .base) (f .header .home) small (S .1); sp = sp ∙ S .0 })
   back (u ∷ us) S U q pc sp = inr (record {
     base = u .base;
     frames = us;
@@ -229,8 +229,9 @@ module _ {f : Fields} {image : List ℕ} {A : Accepted f image} {r : Registers} 
   by-shape forbidden C O = absurd C
   by-shape nothing C O = absurd C
 
-  pub not-home : r .pc ≡ 0 → ⊥
-  not-home e = omega (arith, rules .code-start, inside .0)
+  -- home lies outside the code window
+  pub not-home : r .pc ≡ f .header .home → ⊥
+  not-home e = rules .home-outside (rw e at inside)
 
   -- at a mark the memory's instruction is the image's
   memory-shape : shapeOf (fetched m (r .pc)) (r .pc) ≡ shapeOf (imageFrom (f .header .code) image (r .pc)) (r .pc)

@@ -3,6 +3,7 @@
 use Prim.Native.Nat.{ℕ, _+_, _-_}
 use mathlib.Core.Path.{_≡_}
 use mathlib.Core.List.{List, [], _∷_}
+use native.Mathlib.Nat.{div-add-mod'}
 use native.Mathlib.Omega.{arith}
 use Rattle.registers.specs.Registers.{startOf}
 use Rattle.registers.specs.Word.{wrappingSub}
@@ -36,7 +37,7 @@ ready f image A d m L =
       marked = A .start-marked;
       depth = omega (arith, A .start-depth);
       room = omega arith;
-      stacked = (e, rw (e1, e, L .home-high, L .home-low));
+      stacked = (e, rw (e1, e, L .home-high, L .home-low) (div-add-mod' (f .header .home) 256));
       in-use = cc (e, e1);
       cost = omega arith;
     }

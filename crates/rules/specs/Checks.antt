@@ -185,6 +185,6 @@ abbrev pub verdictBy : ReadOutcome → List ℕ → Verdict
 verdictBy (refused r) image = Refuse r
 verdictBy (read f) image = verdictOn f image
 
--- of a ticket's bytes and an image's: 1 to 8 from reading, then 9, then 10 to 17 at each mark, then 18 to 20
+-- of a ticket's bytes and an image's: 1 to 8 and 29 from reading, then 9, then 10 to 17 at each mark, then 18 to 20
 unfoldable pub verdictOf : List ℕ → List ℕ → Verdict
 verdictOf ticket image = verdictBy (readOf ticket) image

@@ -1,7 +1,7 @@
 -- Demand 3 as a statement about `stepOf`'s instructions and `runOf`: an accepted routine comes home (document 01,
--- "Start" and "The way home"; document 02, b, of the lowest SP).
+-- "Start" and "The way home"; document 02, b, of the lowest SP, and e, of home).
 -- Assumes nothing.
-use Prim.Native.Nat.{ℕ, _+_, _-_, _≤_, _<_}
+use Prim.Native.Nat.{ℕ, _+_, _-_, _/_, _%_, _≤_, _<_}
 use mathlib.Core.Path.{_≡_}
 use mathlib.Core.Logic.{_⊎_}
 use mathlib.Core.List.{List, [], _∷_, _++_}
@@ -10,6 +10,7 @@ use Rattle.registers.specs.declared.Data.{Data}
 use Rattle.registers.specs.declared.Registers.{Registers}
 use Rattle.registers.specs.Registers.{startOf}
 use Rattle.memory.specs.Memory.{Store, byteAt}
+use Rattle.stepper.specs.declared.environment.Environment.{Environment}
 use Rattle.stepper.specs.Answer.{home, spent, registersReached}
 use Rattle.stepper.specs.Run.{AfterRun, runOf}
 use Rattle.ticket.specs.Fields.{Fields}
@@ -22,13 +23,17 @@ use Rattle.rules.specs.InUse.{inUseAfter}
 abbrev pub topOf : Fields → ℕ
 topOf f = f .header .stack .start + f .header .stack .length - 1
 
--- document 01's start: the image fills the code window, home goes in as two zero bytes at T and T - 1, and every other
--- byte is free
+-- what a run of the routine is given: home as the ticket has it
+abbrev pub environmentOf : Fields → Environment
+environmentOf f = record { home = f .header .home }
+
+-- the start: the image fills the code window, home goes in with its high byte at T - 1 and its low byte at T, and every
+-- other byte is free
 pub record Loaded (f : Fields) (image m : List ℕ) : Type 0 where
   pub whole : length m ≡ 65536
   pub code : (i : ℕ) → i < length image → byteAt m (f .header .code .start + i) ≡ getD image i 0
-  pub home-low : byteAt m (topOf f) ≡ 0
-  pub home-high : byteAt m (topOf f - 1) ≡ 0
+  pub home-low : byteAt m (topOf f) ≡ f .header .home % 256
+  pub home-high : byteAt m (topOf f - 1) ≡ f .header .home / 256
 
 -- a byte that is written lies in the data or the stack window, is no code byte and no byte of a return address in use
 pub record Spares (f : Fields) (used : List (List ℕ)) (w : Store) : Type 0 where
@@ -66,42 +71,44 @@ ranSpent q n k = record { answer = spent q (record { 0 = k }); memory = n }
 
 -- where the budget b does not cover a trace: the run goes along it as far as the budget does, and the lowest SP is the
 -- least so far, the start's among them
-pub record Stops (r : Registers) (m : List ℕ) (events : List Event) (b : ℕ) : Type 0 where
+pub record Stops (env : Environment) (r : Registers) (m : List ℕ) (events : List Event) (b : ℕ) : Type 0 where
   pub before : List Event
   pub next : Event
   pub rest : List Event
   pub parts : events ≡ before ++ (next ∷ rest)
   pub registers : Registers
   pub memory : List ℕ
-  pub along : Along r m before registers memory
+  pub along : Along env r m before registers memory
   pub covered : total before ≤ b
   pub uncovered : b < total before + next .cycles
   pub lowest : registers .lowest ≡ leastSp (r .sp) before
-  pub answer : runOf r m b ≡ ranSpent registers memory (total before)
+  pub answer : runOf env r m b ≡ ranSpent registers memory (total before)
 
 -- from the registers r and the memory m, where cost and need are the entry's
-pub record ComesHome (f : Fields) (cost need : ℕ) (r : Registers) (m : List ℕ) : Type 0 where
+pub record ComesHome (f : Fields) (env : Environment) (cost need : ℕ) (r : Registers) (m : List ℕ) : Type 0 where
   -- the way home: the instructions, and the registers and the memory reached
   pub events : List Event
   pub last : Registers
   pub memory : List ℕ
-  pub along : Along r m events last memory
-  pub home : last .pc ≡ 0
+  pub along : Along env r m events last memory
+  pub home : last .pc ≡ env .home
   -- it is the only one
-  pub only : (evs : List Event) (e : Registers) (n : List ℕ) → Along r m evs e n → e .pc ≡ 0 →
+  pub only : (evs : List Event) (e : Registers) (n : List ℕ) → Along env r m evs e n → e .pc ≡ env .home →
       (evs ≡ events) × (e ≡ last) × (n ≡ memory)
   -- it ends within the certified cycles, with an empty stack
   pub in-time : total events ≤ cost
   pub empty : last .sp ≡ topOf f
   pub safe : Safe f need (homePair f ∷ []) events
   -- the run, for every budget
-  pub covered : (b : ℕ) → total events ≤ b → runOf r m b ≡ ranHome last memory (total events)
-  pub uncovered : (b : ℕ) → b < total events → Stops r m events b
+  pub covered : (b : ℕ) → total events ≤ b → runOf env r m b ≡ ranHome last memory (total events)
+  pub uncovered : (b : ℕ) → b < total events → Stops env r m events b
   -- the lowest SP that the run answers: for every budget within the need, and at home the least SP of the whole way
-  pub run-lowest : (b : ℕ) → WithinNeed f need (registersReached (runOf r m b .answer) .lowest)
+  pub run-lowest : (b : ℕ) → WithinNeed f need (registersReached (runOf env r m b .answer) .lowest)
   pub home-lowest : last .lowest ≡ leastSp (r .sp) events
 
--- of an accepted ticket and image, for all A, B, X, Y and flags and all memory outside the code and home bytes
+-- of an accepted ticket and image, for all A, B, X, Y and flags and all memory outside the code and home bytes: the way
+-- ends at the ticket's home
 abbrev pub Demand3 : Fields → List ℕ → ℕ → ℕ → Type 0
 Demand3 f image cost need =
-    (d : Data) (m : List ℕ) → Loaded f image m → ComesHome f cost need (startOf d (f .header .entry) (topOf f)) m
+    (d : Data) (m : List ℕ) → Loaded f image m
+    → ComesHome f (environmentOf f) cost need (startOf d (f .header .entry) (topOf f)) m

@@ -11,7 +11,7 @@ use Rattle.registers.specs.declared.StackBytes.{StackBytes}
 use Rattle.commands.specs.declared.command.Claim.{Claim}
 use Rattle.ticket.specs.declared.fields.Mark.{Mark}
 use Rattle.ticket.specs.Fields.{Fields}
-use Rattle.ticket.specs.Write.{bytesOf}
+use Rattle.ticket.specs.Spells.{Spells}
 use Rattle.ticket.specs.RoundTrip.{FitsFields}
 use Rattle.commands.specs.Every.{Every}
 use Rattle.ticket.specs.Rules.{In, Readable}
@@ -70,11 +70,11 @@ pub record Accepted (f : Fields) (image : List ℕ) : Type 0 where
   pub start-cost : start .cost .0 ≤ f .header .limit .0
   pub start-need : start .need .0 + 2 ≤ f .header .stack .length
 
--- what an acceptance says: the ticket is the bytes of fields of which every rule holds, and the answer is the entry,
--- its cost and its need + 2
+-- what an acceptance says: the ticket's bytes state fields of which every rule holds, and the answer is the entry, its
+-- cost and its need + 2
 pub record Certified (ticket image : List ℕ) (entry : ℕ) (cost : Cycles) (stack : StackBytes) : Type 0 where
   pub fields : Fields
-  pub bytes : bytesOf fields ≡ ticket
+  pub bytes : Spells fields ticket
   pub fits : FitsFields fields
   pub accepted : Accepted fields image
   pub entry-is : entry ≡ fields .header .entry

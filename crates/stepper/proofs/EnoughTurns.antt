@@ -6,18 +6,20 @@ use Prim.Native.Nat.{ℕ, zero, suc, _+_, _≤_, _<_}
 use native.Mathlib.Omega.{arith}
 use lib.Dec.{eqb}
 use Rattle.registers.specs.declared.Registers.{Registers}
+use Rattle.stepper.specs.declared.environment.Environment.{Environment}
 use Rattle.stepper.specs.Step.{stepOf}
 use Rattle.stepper.specs.Run.{runFrom}
 use Rattle.stepper.proofs.Costs.{step-cost}
 use Rattle.stepper.proofs.SameRest.{same-turn}
 
-pub enough : (n n′ b s : ℕ) (r : Registers) (m : List ℕ) → s ≤ b → b < s + n → b < s + n′
-    → runFrom n b s r m ≡ runFrom n′ b s r m
+pub enough : (env : Environment) (n n′ b s : ℕ) (r : Registers) (m : List ℕ) → s ≤ b → b < s + n → b < s + n′
+    → runFrom env n b s r m ≡ runFrom env n′ b s r m
 unfolding runFrom
-enough zero n′ b s r m l h h′ = absurd (omega arith)
-enough (suc n) zero b s r m l h h′ = absurd (omega arith)
-enough (suc n) (suc n′) b s r m l h h′ =
-    same-turn b (λ t q m′. runFrom n b t q m′) (λ t q m′. runFrom n′ b t q m′) s r m
+enough env zero n′ b s r m l h h′ = absurd (omega arith)
+enough env (suc n) zero b s r m l h h′ = absurd (omega arith)
+enough env (suc n) (suc n′) b s r m l h h′ =
+    same-turn b (λ t q m′. runFrom env n b t q m′) (λ t q m′. runFrom env n′ b t q m′) s r m
     (λ q c a w.
     let two = step-cost r m q c a in
-    enough n n′ b (s + c .0) q (stepOf r m .memory) w (omega (arith, two)) (omega (arith, two))) (eqb (r .pc) 0)
+    enough env n n′ b (s + c .0) q (stepOf r m .memory) w (omega (arith, two)) (omega (arith, two)))
+    (eqb (r .pc) (env .home))

@@ -21,6 +21,7 @@ use Rattle.opcodes.specs.declared.instruction.Decoded.the-variants.{Instruction
 use Rattle.instructions.specs.Form.{waits}
 use Rattle.instructions.specs.Entry.{formOf}
 use Rattle.instructions.specs.Effect.{Effect, effectOf}
+use Rattle.stepper.specs.declared.environment.Environment.{Environment}
 use Rattle.stepper.specs.Step.{Did, did, stopped, fetched, executed, carriedOut, didIf, didOf}
 use Rattle.stepper.specs.Trace.{Event, leastSp, Along, stay, then}
 
@@ -53,7 +54,7 @@ pub done-lowest : (r q : Registers) (m : List ℕ) (ws : List Store) (k : ℕ) �
     → q .lowest ≡ smallerOf (q .sp) (r .lowest)
 done-lowest r q m ws k e = subst (KeepsSmaller (r .lowest)) e (keeps-smaller r m)
 
-pub trace-lowest : {r e : Registers} {m n : List ℕ} {evs : List Event} → Along r m evs e n
+pub trace-lowest : {env : Environment} {r e : Registers} {m n : List ℕ} {evs : List Event} → Along env r m evs e n
     → e .lowest ≡ leastSp (r .lowest) evs
 trace-lowest stay = refl
 trace-lowest (then {r} {q} {m} {ws} {k} {evs} away does rest) =

@@ -16,6 +16,7 @@ use Rattle.instructions.specs.Form.{waits}
 use Rattle.opcodes.specs.declared.instruction.Decoded.{Decoded}
 use Rattle.opcodes.specs.declared.instruction.Decoded.the-variants.{Instruction, Nothing}
 use Rattle.instructions.specs.Effect.{Effect, effectOf}
+use Rattle.stepper.specs.declared.environment.Environment.{Environment}
 use Rattle.stepper.specs.Answer.{Answer, done, refused, RunAnswer, home, spent, refused as runRefused}
 use Rattle.stepper.specs.Step.{fetched, executed, carriedOut, didIf, didOf, after, stepOf}
 use Rattle.stepper.specs.Run.{Rest, ifCovered, ifDone, turn, runFrom, runIf, runOf}
@@ -66,16 +67,17 @@ module _ (b : ℕ) (f : Rest) (rest : (t : ℕ) (q : Registers) (n : List ℕ) �
   by-home true = tt
   by-home false = by-answer (stepOf r m .answer) (stepOf r m .memory) (step-placed r m)
 
-from : (n b s : ℕ) (r : Registers) (m : List ℕ) → RunPlaced (runFrom n b s r m .answer)
+from : (env : Environment) (n b s : ℕ) (r : Registers) (m : List ℕ) → RunPlaced (runFrom env n b s r m .answer)
 unfolding runFrom
-from zero b s r m = tt
-from (suc n) b s r m =
-    by-home b (λ t q m′. runFrom n b t q m′) (λ t q m′. from n b t q m′) s r m (eqb (r .pc) 0)
+from env zero b s r m = tt
+from env (suc n) b s r m =
+    by-home b (λ t q m′. runFrom env n b t q m′) (from env n b) s r m (eqb (r .pc) (env .home))
 
-run-by-length : (c : Bool) (r : Registers) (m : List ℕ) (b : ℕ) → RunPlaced (runIf c r m b .answer)
-run-by-length true r m b = from (suc b) b 0 r m
-run-by-length false r m b = (omega arith, omega arith, omega arith)
+run-by-length : (env : Environment) (c : Bool) (r : Registers) (m : List ℕ) (b : ℕ)
+    → RunPlaced (runIf c env r m b .answer)
+run-by-length env true r m b = from env (suc b) b 0 r m
+run-by-length env false r m b = (omega arith, omega arith, omega arith)
 
-pub run-placed : (r : Registers) (m : List ℕ) (b : ℕ) → RunPlaced (runOf r m b .answer)
+pub run-placed : (env : Environment) (r : Registers) (m : List ℕ) (b : ℕ) → RunPlaced (runOf env r m b .answer)
 unfolding runOf
-run-placed r m b = run-by-length (eqb (length m) 65536) r m b
+run-placed env r m b = run-by-length env (eqb (length m) 65536) r m b

@@ -7,6 +7,7 @@ ghost use Rattle.stepper.specs.Run.{runOf};
 ghost use Rattle.stepper.specs.inner.Until.{endedOf, asStep};
 use crate::answer::Ran;
 use crate::answer::Stepped;
+use crate::environment::Environment;
 use crate::until::Ended;
 use crate::until::run_until;
 use answers::refuse;
@@ -14,6 +15,7 @@ use registers::Cycles;
 use registers::Registers;
 
 pub mod answer; // what a step and a run answer
+pub mod environment; // what a run is given besides registers, memory and budget
 pub mod record; // a step on a lent register record
 mod until; // the loop over the instructions that both are
 
@@ -38,7 +40,7 @@ fn ran(a: Ended) -> Ran
     }
 }
 
-// One instruction: the loop ends wherever that leads.
+// One instruction: the loop ends wherever that leads, whatever home is.
 pub fn step(r: Registers, mem: &mut [u8]) -> Stepped
     ensures { λ q. ⌜ (answerOf q ≡ stepOf r (now (mem .entry)) .answer)
         × (now (mem .exit) ≡ stepOf r (now (mem .entry)) .memory) ⌝ }
@@ -46,19 +48,19 @@ pub fn step(r: Registers, mem: &mut [u8]) -> Stepped
     if mem.len() != 65536 {
         return Stepped::Refused(refuse(21, 0));
     }
-    stepped(run_until(r, mem, 255, 65535))
+    stepped(run_until(r, mem, 255, 0, true))
 }
 
-// Instructions until home, a refusal, or one that would pass the budget: the loop ends at PC 0.
-pub fn run(r: Registers, mem: &mut [u8], budget: u32) -> Ran
-    ensures { λ q. ⌜ (ranOf q ≡ runOf r (now (mem .entry)) budget .answer)
-        × (now (mem .exit) ≡ runOf r (now (mem .entry)) budget .memory) ⌝ }
+// Instructions until the environment's home, a refusal, or one that would pass the budget.
+pub fn run(r: Registers, mem: &mut [u8], env: Environment, budget: u32) -> Ran
+    ensures { λ q. ⌜ (ranOf q ≡ runOf env r (now (mem .entry)) budget .answer)
+        × (now (mem .exit) ≡ runOf env r (now (mem .entry)) budget .memory) ⌝ }
 {
     if mem.len() != 65536 {
         return Ran::Refused(r, Cycles(0), refuse(21, 0));
     }
-    if r.pc == 0 {
+    if r.pc == env.home {
         return Ran::Home(r, Cycles(0));
     }
-    ran(run_until(r, mem, budget, 0))
+    ran(run_until(r, mem, budget, env.home, false))
 }

@@ -40,13 +40,13 @@ fn find(mem: &[u8], pc: u16, tc: &[u16; 1024]) -> Found
     found_of(byte_at(mem, pc), byte_at(mem, wrapping_add(pc, 1)), tc)
 }
 
-// The next instruction, wherever it stands, and those after it until PC is `last` or below: 0 is home, and 65,535 is
-// any address, so that one instruction ends the loop. The lowest SP is kept beside the registers, which hold it only
-// where they are handed on: in them it would cost the loop more host instructions.
-pub fn run_until(r: Registers, mem: &mut [u8], budget: u32, last: u16) -> Ended
+// The next instruction, wherever it stands, and those after it until PC is `home`; that one alone where `once`. The
+// lowest SP is kept beside the registers, which hold it only where they are handed on: in them it would cost the loop
+// more host instructions.
+pub fn run_until(r: Registers, mem: &mut [u8], budget: u32, home: u16, once: bool) -> Ended
     requires { ⌜ length (now mem) ≡ 65536 ⌝ }
-    ensures { λ q. ⌜ (endedOf q ≡ untilOf last r (now (mem .entry)) budget .answer)
-        × (now (mem .exit) ≡ untilOf last r (now (mem .entry)) budget .memory) ⌝ }
+    ensures { λ q. ⌜ (endedOf q ≡ untilOf once home r (now (mem .entry)) budget .answer)
+        × (now (mem .exit) ≡ untilOf once home r (now (mem .entry)) budget .memory) ⌝ }
 {
     let tc = costs();
     let ta = actions();
@@ -83,7 +83,7 @@ pub fn run_until(r: Registers, mem: &mut [u8], budget: u32, last: u16) -> Ended
                 );
                 lowest = smaller(q.sp, lowest);
                 left = left - k;
-                if q.pc <= last {
+                if once | (q.pc == home) {
                     return Ended::Arrived(q.with_lowest(lowest), Cycles(budget - left));
                 }
             }

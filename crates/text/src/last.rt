@@ -1,5 +1,5 @@
-// The line that ends a trace: cycles and stack bytes, as used of what is certified, and the lowest SP. Where the budget
-// did not cover the way, it stands in place of the certified cycles.
+// The line that ends a trace: cycles and stack bytes, as used of what is certified, the lowest SP, and home. Where the
+// budget did not cover the way, it stands in place of the certified cycles.
 ghost use mathlib.Core.Path.{_≡_};
 ghost use Prim.Native.Nat.{_≤_};
 ghost use lib.ListN.{length};
@@ -21,6 +21,7 @@ pub struct Totals {
     pub stack: StackBytes,
     pub certified: StackBytes,
     pub lowest: u16,
+    pub home: u16,
 }
 
 fn line(label: &[u8], t: Totals) -> Line
@@ -30,7 +31,8 @@ fn line(label: &[u8], t: Totals) -> Line
     let a = with_pair(empty(), label, t.cycles.0, t.allowed.0);
     let b = with_pair(a, b" stack=", t.stack.0 as u32, t.certified.0 as u32);
     let c = with_word(b, b" lowest=", t.lowest);
-    with_text(c, b"\n")
+    let d = with_word(c, b" home=", t.home);
+    with_text(d, b"\n")
 }
 
 // How many bytes the line has; it stands at the beginning of the output.

@@ -57,8 +57,8 @@ all-at : (cs : List Command) (p q : Progress) → allThen (Next p) cs ≡ Next q
 all-at [] p q e = let same : p .at ≡ q .at = cc in omega arith
 all-at (c ∷ cs) p q e =
     by-admission p c (λ a. allThen a cs ≡ Next q → q .at ≡ p .at + length (encodeAll (c ∷ cs)))
-    (λ r n. absurd (not-next (sym (refused-stays r cs) ∙ n)))
-    (λ h n. simp length-append (omega (arith, all-at cs _ q n, after-at p c, length-encode c))) e
+    (λ r h n. absurd (not-next (sym (refused-stays r cs) ∙ n)))
+    (λ n. simp length-append (omega (arith, all-at cs _ q n, after-at p c, length-encode c))) e
 
 pub checked-at : (f : Fields) (p : Progress) → checkOf f ≡ Next p → p .at ≡ length (bytesOf f)
 unfolding checkOf bytesOf

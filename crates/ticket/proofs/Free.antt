@@ -16,13 +16,18 @@ use Rattle.ticket.specs.Write.{allThen}
 use Rattle.ticket.proofs.ReadWritten.{refused-stays}
 use Rattle.ticket.proofs.Checks.{not-next}
 
+-- what some commands leave
+abbrev pub afterAll : Progress → List Command → Progress
+afterAll p [] = p
+afterAll p (c ∷ cs) = afterAll (afterOf p c) cs
+
 abbrev pub Free : Progress → List Command → Type 0
 Free p [] = Unit
 Free p (c ∷ cs) = (commandCauseOf p c ≡ 0) × Free (afterOf p c) cs
 
-pub free-admitted : (p : Progress) (cs : List Command) → Free p cs → (q : Progress) × (allThen (Next p) cs ≡ Next q)
+pub free-admitted : (p : Progress) (cs : List Command) → Free p cs → allThen (Next p) cs ≡ Next (afterAll p cs)
 unfolding admitOf
-free-admitted p [] f = (p, refl)
+free-admitted p [] f = refl
 free-admitted p (c ∷ cs) f = rw (eq-eqb _ _ (f .0)) (free-admitted (afterOf p c) cs (f .1))
 
 module _ (p q : Progress) (c : Command) (cs : List Command) (rest : allThen (Next (afterOf p c)) cs ≡ Next q →

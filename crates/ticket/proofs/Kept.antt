@@ -1,9 +1,10 @@
 -- What the commands of a ticket leave, if each is admitted: the ticket's header and marks.
 -- Assumes nothing.
 use Prim.Native.Nat.{ℕ}
-use mathlib.Core.Path.{_≡_, refl, _∙_}
+use mathlib.Core.Path.{_≡_, refl, sym, ap, _∙_}
 use mathlib.Core.List.{List, [], _∷_, _++_, append-nil, append-assoc}
 use Rattle.commands.specs.declared.command.Claim.{Claim}
+use Rattle.commands.specs.declared.command.HeaderCommand.the-variants.{Home}
 use Rattle.commands.specs.declared.command.Command.{Command}
 use Rattle.commands.specs.declared.command.Command.the-variants as Command
 use Rattle.commands.specs.declared.header.Header.{Header}
@@ -15,6 +16,7 @@ use Rattle.ticket.specs.declared.fields.Name.the-variants.{Absent, Text}
 use Rattle.ticket.specs.declared.fields.Mark.{Mark}
 use Rattle.ticket.specs.Fields.{Fields, unnamed, marksWith, inFileOrder}
 use Rattle.ticket.specs.Write.{nameCommands, markCommands, commandsOf}
+use Rattle.ticket.specs.Spells.{commandsWithoutHome}
 
 abbrev pub headerAfter : Header → Command → Header
 headerAfter h (Command.Header c) = headerWith h c
@@ -50,3 +52,10 @@ kept-marks h ks (m ∷ ms) =
 pub kept : (f : Fields) → keptOf blankHeader [] (commandsOf f) ≡ f
 unfolding commandsOf
 kept f = kept-marks (f .header) [] (f .marks)
+
+-- a header that no command says home of has home $0000
+pub kept-without-home : (f : Fields) → f .header .home ≡ 0 → keptOf blankHeader [] (commandsWithoutHome f) ≡ f
+unfolding commandsWithoutHome
+kept-without-home f z =
+    kept-marks _ [] (f .marks)
+    ∙ ap (λ (a : ℕ). record { header = headerWith (f .header) (Home a); marks = f .marks }) (sym z)

@@ -13,10 +13,12 @@ pub mod MarkArray
 pub mod ReadLoop
 pub mod Checks
 pub mod Free
+pub mod Says
+pub mod Readable
 pub mod WrittenRead
 pub mod Parts
 pub mod HeaderParts
-pub mod Says
-pub mod Readable
 pub mod Accepts
+mod Later
+pub mod OldTicket
 mod Placed

@@ -1,5 +1,5 @@
--- Reading a ticket's bytes gives its fields, or the refusal that the writer's checks give, with the same number and
--- place.
+-- Reading the bytes of a ticket's commands gives its fields, or the refusal that the checks of these commands give,
+-- with the same number and place.
 -- Assumes nothing.
 use Prim.Native.Nat.{ℕ, zero, suc, _<_}
 use mathlib.Core.Path.{_≡_, refl, ap, _∙_}
@@ -14,7 +14,7 @@ use Rattle.answers.specs.declared.Refusal.{Refusal}
 use Rattle.commands.specs.declared.progress.Progress.{Progress}
 use Rattle.commands.specs.declared.admit.Admitted.the-variants.{Refused, Next}
 use Rattle.commands.specs.Every.{none, more}
-use Rattle.commands.specs.Header.{headerCommands}
+use Rattle.commands.specs.Header.{blankHeader, requiredCommands, headerCommands}
 use Rattle.commands.specs.Bytes.{encodeOf}
 use Rattle.commands.specs.Progress.{initialProgress, ended}
 use Rattle.commands.proofs.Coding.{length-encode, width-positive}
@@ -24,10 +24,11 @@ use Rattle.ticket.specs.declared.fields.Mark.{Mark}
 use Rattle.ticket.specs.Fields.{Fields, marksWith}
 use Rattle.ticket.specs.Read.{readFrom, readOf}
 use Rattle.ticket.specs.Write.{nameCommands, markCommands, commandsOf, encodeAll, bytesOf, allThen, checkOf}
+use Rattle.ticket.specs.Spells.{commandsWithoutHome, bytesWithoutHome}
 use Rattle.ticket.specs.RoundTrip.{AllFit, FitsFields, answered}
 use Rattle.ticket.proofs.Stage.{ends, stage-after}
 use Rattle.ticket.proofs.Step.{step}
-use Rattle.ticket.proofs.Kept.{header-after, headerAfter, keptOf, kept}
+use Rattle.ticket.proofs.Kept.{header-after, headerAfter, keptOf, kept, kept-without-home}
 
 -- the commands left, none after the end (true), or before it (false): the last is the end, and no other is
 data Closed : Bool → List Command → Type 0 where
@@ -58,6 +59,10 @@ closed : (f : Fields) → Closed false (commandsOf f)
 unfolding commandsOf
 closed f = closed-header (headerCommands (f .header)) _ refl (closed-marks (f .marks))
 
+closed-without-home : (f : Fields) → Closed false (commandsWithoutHome f)
+unfolding commandsWithoutHome
+closed-without-home f = closed-header (requiredCommands (f .header)) _ refl (closed-marks (f .marks))
+
 -- what comes after a refused command changes nothing
 pub refused-stays : (r : Refusal) (cs : List Command) → allThen (Refused r) cs ≡ Refused r
 refused-stays r [] = refl
@@ -76,9 +81,21 @@ read-all (suc n) p ms after none e l = rw e
 read-all (suc n) p ms (before {c} {cs} d) (more fit fits) e l =
     step n p ms c (encodeAll cs) e fit (λ a. answered (allThen a cs)
     (keptOf (headerAfter (p .header) c) (marksWith ms c) cs))
-    (λ r. rw refused-stays) (λ h. rw (← header-after p c) (read-all n _ _ d fits (stage-after p c h) (shorter c _ n l)))
+    (λ r. rw refused-stays) (rw (← header-after p c) (read-all n _ _ d fits (stage-after p c) (shorter c _ n l)))
+
+from-start : {cs : List Command} → Closed false cs → AllFit cs → readOf (encodeAll cs)
+    ≡ answered (allThen (Next initialProgress) cs) (keptOf blankHeader [] cs)
+unfolding readOf
+from-start d fits = read-all _ initialProgress [] d fits refl (omega arith)
 
 pub read-written : (f : Fields) → FitsFields f → readOf (bytesOf f) ≡ answered (checkOf f) f
-unfolding readOf bytesOf checkOf
-read-written f fits =
-    read-all _ initialProgress [] (closed f) fits refl (omega arith) ∙ ap (answered (checkOf f)) (kept f)
+unfolding bytesOf checkOf
+read-written f fits = from-start (closed f) fits ∙ ap (answered (checkOf f)) (kept f)
+
+-- where home is $0000 its command may be left out
+pub read-without-home : (f : Fields) → f .header .home ≡ 0 → AllFit (commandsWithoutHome f)
+    → readOf (bytesWithoutHome f) ≡ answered (allThen (Next initialProgress) (commandsWithoutHome f)) f
+unfolding bytesWithoutHome
+read-without-home f z fits =
+    from-start (closed-without-home f) fits
+    ∙ ap (answered (allThen (Next initialProgress) (commandsWithoutHome f))) (kept-without-home f z)

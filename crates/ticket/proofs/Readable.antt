@@ -1,23 +1,25 @@
 -- The commands of a ticket have no cause against any where its fields are as the rules say, and only there.
 -- Assumes nothing.
 use Prim.Native.Nat.{ℕ, _+_, _≤_, _<_}
-use mathlib.Core.Path.{_≡_, refl}
+use mathlib.Core.Path.{_≡_, refl, ap}
 use mathlib.Core.Logic.{_↔_}
 use mathlib.Core.Bool.{true, and-eq-true-iff}
 use mathlib.Core.List.{List, [], _∷_, _++_}
 use native.Mathlib.Omega.{arith}
 use Rattle.commands.specs.declared.command.Claim.{Claim}
+use Rattle.commands.specs.declared.command.HeaderCommand.the-variants.{Home}
 use Rattle.commands.specs.declared.command.Command.{Command}
 use Rattle.commands.specs.declared.command.Command.the-variants as Command
 use Rattle.commands.specs.declared.header.Header.{Header}
 use Rattle.commands.specs.declared.progress.Progress.{Progress}
 use Rattle.commands.specs.declared.admit.Admitted.the-variants.{Next}
 use Rattle.commands.specs.Number.{digits}
-use Rattle.commands.specs.Header.{headerCommands}
+use Rattle.commands.specs.Header.{headerWith, requiredCommands, headerCommands}
 use Rattle.commands.specs.Bytes.{widthOf}
 use Rattle.commands.specs.Rows.{headerLength}
 use Rattle.commands.specs.Progress.{initialProgress, markedOf, afterOf}
-use Rattle.commands.specs.Cause.{inOrder, rangesHold, edgesHold, separate, inside, commandCauseOf}
+use Rattle.commands.specs.Cause.{mayCome, inOrder, rangesHold, edgesHold, separate, homeOutside, inside}
+use Rattle.commands.specs.Cause.{commandCauseOf}
 use Rattle.commands.proofs.Causes.{allowed, allow}
 use Rattle.commands.proofs.Every.{first}
 use Rattle.ticket.specs.declared.fields.Name.{Name}
@@ -25,80 +27,96 @@ use Rattle.ticket.specs.declared.fields.Name.the-variants.{Absent, Text}
 use Rattle.ticket.specs.declared.fields.Mark.{Mark}
 use Rattle.ticket.specs.Fields.{Fields}
 use Rattle.ticket.specs.Write.{nameCommands, markCommands, commandsOf, checkOf}
+use Rattle.ticket.specs.Spells.{commandsWithoutHome}
 use Rattle.commands.specs.Every.{Every}
 use Rattle.ticket.specs.Rules.{Between, In, HeaderRules, ClaimRules, NameRule, absent, text, MarkRules, Rising}
 use Rattle.ticket.specs.Rules.{Readable}
 use Rattle.ticket.proofs.Says.{true-says, leb-says, ltb-says, eqb-says, after-says}
-use Rattle.ticket.proofs.Says.{printable-says, apart-says}
-use Rattle.ticket.proofs.Free.{Free, free-admitted, admitted-free}
+use Rattle.ticket.proofs.Says.{printable-says, outside-says, apart-says}
+use Rattle.ticket.proofs.Free.{afterAll, Free, free-admitted, admitted-free}
 
-ruleset tests = (true-says, and-eq-true-iff, leb-says, ltb-says, eqb-says, after-says, apart-says)
+ruleset tests = (true-says, and-eq-true-iff, leb-says, ltb-says, eqb-says, after-says, outside-says, apart-says)
 
 cause-says : (p : Progress) (c : Command) → (commandCauseOf p c ≡ 0) ↔ ((inOrder p c ≡ true) × (rangesHold c ≡ true)
-    × (edgesHold c ≡ true) × (separate (p .header) c ≡ true) × (inside (p .header) c ≡ true))
+    × (edgesHold c ≡ true) × (separate (p .header) c ≡ true) × (homeOutside (p .header) c ≡ true)
+    × (inside (p .header) c ≡ true))
 cause-says p c = (
-  λ e. let a = allowed p c e in (a .ordered, a .ranged, a .edged, a .separated, a .placed),
-  λ t. allow p c (record { ordered = t .0; ranged = t .1; edged = t .2; separated = t .3; placed = t .4 }),
+  λ e. let a = allowed p c e in (a .ordered, a .ranged, a .edged, a .separated, a .homed, a .placed),
+  λ t.
+      allow p c (record {
+        ordered = t .0;
+        ranged = t .1;
+        edged = t .2;
+        separated = t .3;
+        homed = t .4;
+        placed = t .5;
+      }),
 )
 
 -- ---- the header
 
--- after some commands
-abbrev afterAll : Progress → List Command → Progress
-afterAll p [] = p
-afterAll p (c ∷ cs) = afterAll (afterOf p c) cs
-
-abbrev headed : Header → Progress
+abbrev pub headed : Header → Progress
 headed h = afterAll initialProgress (headerCommands h)
 
-header-says : (h : Header) (cs : List Command) → Free initialProgress (headerCommands h ++ cs) ↔ (HeaderRules h
+pub header-says : (h : Header) (cs : List Command) → Free initialProgress (headerCommands h ++ cs) ↔ (HeaderRules h
     × Free (headed h) cs)
 unfolding afterOf widthOf rangesHold
 header-says h cs = simp (cause-says, tests) (λ f. search arith, λ r. search arith)
 
+-- where home's command is left out, home is $0000, which no code window holds
+abbrev pub headedWithoutHome : Header → Progress
+headedWithoutHome h = afterAll initialProgress (requiredCommands h)
+
+pub required-says : (h : Header) (cs : List Command) → h .home ≡ 0 → Free initialProgress (requiredCommands h ++ cs)
+    ↔ (HeaderRules h × Free (headedWithoutHome h) cs)
+unfolding afterOf widthOf rangesHold
+required-says h cs z = simp (cause-says, tests) (λ f. search arith, λ r. search arith)
+
 -- ---- one mark and its name, after a header and perhaps other marks
 
-module _ (p : Progress) (e : p .stage ≡ headerLength) where
+module _ (p : Progress) (e : mayCome (p .stage) headerLength ≡ true) where
   mark-says : (a : ℕ) (k : Claim) → (commandCauseOf p (Command.Mark a k) ≡ 0) ↔ ((1 ≤ p .count → p .last < a)
       × ClaimRules k × In (p .header .code) a)
   unfolding rangesHold
   mark-says a k = simp (cause-says, tests) (λ t. search arith, λ r. search arith)
 
-  text-says : (n a t : ℕ) → (commandCauseOf (markedOf p n a) (Command.Name a t) ≡ 0) ↔ Every (Between 0x20 0x7e)
-      (digits 8 t)
+  end-free : commandCauseOf p Command.End ≡ 0
   unfolding rangesHold
-  text-says n a t = (
+  end-free = simp (cause-says, tests) (search)
+
+module _ (p : Progress) where
+  text-says : (w a t : ℕ) → (commandCauseOf (markedOf p w headerLength a) (Command.Name a t) ≡ 0)
+      ↔ Every (Between 0x20 0x7e) (digits 8 t)
+  unfolding rangesHold
+  text-says w a t = (
     λ c. printable-says (digits 8 t) .0 (and-eq-true-iff _ true .0
-        (allowed (markedOf p n a) (Command.Name a t) c .ranged) .0),
+        (allowed (markedOf p w headerLength a) (Command.Name a t) c .ranged) .0),
     λ r.
-        allow (markedOf p n a) (Command.Name a t)
+        allow (markedOf p w headerLength a) (Command.Name a t)
         (record {
           ordered = simp tests (omega arith);
           ranged = rw (printable-says (digits 8 t) .1 r);
           edged = refl;
           separated = refl;
+          homed = refl;
           placed = refl;
         }),
   )
-
-  end-free : commandCauseOf p Command.End ≡ 0
-  unfolding rangesHold
-  end-free = simp (cause-says, tests) (search)
 
 text-of : {t : ℕ} → NameRule (Text t) → Every (Between 0x20 0x7e) (digits 8 t)
 text-of (text r) = r
 
 -- what comes after a mark and its name depends on the header, how many marks there are and the last address
-module _ (p : Progress) (e : p .stage ≡ headerLength) (a : ℕ) (cs ds : List Command) (R : Header → ℕ → ℕ →
-    Type 0) (rest : (q : Progress) → q .stage ≡ headerLength →
+module _ (p : Progress) (a : ℕ) (cs ds : List Command) (R : Header → ℕ → ℕ → Type 0)
+    (rest : (q : Progress) → mayCome (q .stage) headerLength ≡ true →
     Free q (cs ++ ds) ↔ R (q .header) (q .count) (q .last)) where
-  name-says : (w : ℕ) (n : Name) → Free (markedOf p w a) ((nameCommands a n ++ cs) ++ ds) ↔ (NameRule n
+  name-says : (w : ℕ) (n : Name) → Free (markedOf p w headerLength a) ((nameCommands a n ++ cs) ++ ds) ↔ (NameRule n
       × R (p .header) (p .count + 1) a)
   unfolding afterOf
-  name-says w Absent = (λ f. (absent, rest _ e .0 f), λ r. rest _ e .1 (r .1))
+  name-says w Absent = (λ f. (absent, rest _ refl .0 f), λ r. rest _ refl .1 (r .1))
   name-says w (Text t) = (
-    λ f. (text (text-says p e w a t .0 (f .0)), rest _ e .0 (f .1)),
-    λ r. (text-says p e w a t .1 (text-of (r .0)), rest _ e .1 (r .1)),
+    λ f. (text (text-says p w a t .0 (f .0)), rest _ refl .0 (f .1)),
+    λ r. (text-says p w a t .1 (text-of (r .0)), rest _ refl .1 (r .1)),
   )
 
 -- ---- the marks
@@ -119,14 +137,14 @@ rising-says m (n ∷ ms) = (rising-more, λ r. Rising.more (r .0) (r .1))
 abbrev Marked : List Mark → Header → ℕ → ℕ → Type 0
 Marked ms h n l = Every (MarkRules h) ms × (1 ≤ n → Under l ms) × Rising ms
 
-marks-says : (ms : List Mark) (p : Progress) → p .stage ≡ headerLength →
+marks-says : (ms : List Mark) (p : Progress) → mayCome (p .stage) headerLength ≡ true →
     Free p (markCommands ms ++ (Command.End ∷ [])) ↔ Marked ms (p .header) (p .count) (p .last)
 unfolding afterOf
 marks-says [] p e = (λ f. (Every.none, λ o. tt, Rising.none), λ r. (end-free p e, tt))
 marks-says (m ∷ ms) p e =
     let mark = mark-says p e (m .address) (m .claim) in
     let name =
-    name-says p e (m .address) (markCommands ms) (Command.End ∷ []) (Marked ms) (marks-says ms) _ (m .name) in
+    name-says p (m .address) (markCommands ms) (Command.End ∷ []) (Marked ms) (marks-says ms) _ (m .name) in
     let rise = rising-says m ms in (
       λ f.
           let k = mark .0 (f .0) in
@@ -143,21 +161,36 @@ marks-says (m ∷ ms) p e =
 
 -- ---- the ticket
 
-readable-says : (f : Fields) → Free initialProgress (commandsOf f) ↔ Readable f
-unfolding commandsOf afterOf
-readable-says f =
-    let head = header-says (f .header) (markCommands (f .marks) ++ (Command.End ∷ [])) in
-    let marks = marks-says (f .marks) (headed (f .header)) refl in (
-      λ c.
-          let h = head .0 c in
-          let m = marks .0 (h .1) in
-          record { header-rules = h .0; mark-rules = m .0; rising = m .2 },
-      λ r. head .1 (r .header-rules, marks .1 (r .mark-rules, λ o. absurd (omega arith), r .rising)),
-    )
+-- the header's rules, and those of the marks after it
+module _ (f : Fields) where
+  parts : HeaderRules (f .header) × Marked (f .marks) (f .header) 0 0 ↔ Readable f
+  parts = (
+    λ r. record { header-rules = r .0; mark-rules = r .1 .0; rising = r .1 .2 },
+    λ r. (r .header-rules, (r .mark-rules, λ o. absurd (omega arith), r .rising)),
+  )
+
+  pub readable-says : Free initialProgress (commandsOf f) ↔ Readable f
+  unfolding commandsOf afterOf
+  readable-says =
+      let head = header-says (f .header) (markCommands (f .marks) ++ (Command.End ∷ [])) in
+      let marks = marks-says (f .marks) (headed (f .header)) refl in (
+        λ c. let h = head .0 c in parts .0 (h .0, marks .0 (h .1)),
+        λ r. let h = parts .1 r in head .1 (h .0, marks .1 (h .1)),
+      )
+
+  pub readable-without-home : f .header .home ≡ 0 → Free initialProgress (commandsWithoutHome f) ↔ Readable f
+  unfolding commandsWithoutHome afterOf
+  readable-without-home z =
+      let head = required-says (f .header) (markCommands (f .marks) ++ (Command.End ∷ [])) z in
+      let marks = marks-says (f .marks) (headedWithoutHome (f .header)) refl in
+      let same = ap (λ (a : ℕ). Marked (f .marks) (headerWith (f .header) (Home a)) 0 0) z in (
+        λ c. let h = head .0 c in parts .0 (h .0, rw same (marks .0 (h .1))),
+        λ r. let h = parts .1 r in head .1 (h .0, marks .1 (rw same at (h .1))),
+      )
 
 pub readable-checked : (f : Fields) → Readable f → (q : Progress) × (checkOf f ≡ Next q)
 unfolding checkOf
-readable-checked f r = free-admitted initialProgress (commandsOf f) (readable-says f .1 r)
+readable-checked f r = (_, free-admitted initialProgress (commandsOf f) (readable-says f .1 r))
 
 pub checked-readable : (f : Fields) (q : Progress) → checkOf f ≡ Next q → Readable f
 unfolding checkOf

@@ -1,18 +1,18 @@
 -- What each test of a command says of its numbers, both ways.
 -- Assumes nothing.
 use Prim.Native.Nat.{ℕ, _≤_, _<_, max}
-use mathlib.Core.Path.{_≡_, refl}
+use mathlib.Core.Path.{_≡_, refl, sym}
 use mathlib.Core.Logic.{_↔_}
-use mathlib.Core.Bool.{Bool, true, false, _||_, true≢false, false≢true, not-eq-not, and-eq-true-iff}
+use mathlib.Core.Bool.{Bool, true, false, not, _||_, true≢false, false≢true, not-eq-not, and-eq-true-iff}
 use mathlib.Core.List.{List, [], _∷_}
 use native.Mathlib.Omega.{arith}
 use lib.Dec.{eqb, ltb, leb}
 use borrow.Author.Tests.{ltb-true, ltb-false, leb-true, leb-false, eqb-true, eqb-false, lt-ltb, le-leb}
-use borrow.Author.Tests.{lt-leb, eq-eqb, ne-eqb}
+use borrow.Author.Tests.{lt-leb, eq-eqb, ne-eqb, not-false}
 use Rattle.commands.specs.declared.header.Window.{Window}
 use Rattle.commands.specs.Rows.{printable}
 use Rattle.commands.specs.Cause.{apart}
-use Rattle.commands.specs.Header.{pastOf}
+use Rattle.commands.specs.Header.{pastOf, holds}
 use Rattle.commands.specs.Every.{Every}
 use Rattle.ticket.specs.Rules.{Between, In, Apart}
 use Rattle.commands.specs.Every.Every.{none, more}
@@ -54,6 +54,17 @@ printable-says [] = (λ e. none, λ r. refl)
 printable-says (b ∷ s) = (
   λ e. let h = simp (and-eq-true-iff, leb-says) at e in more (h .0) (printable-says s .0 (h .1)),
   printed,
+)
+
+-- an address outside a window
+pub outside-says : (w : Window) (a : ℕ) → (not (holds w a) ≡ true) ↔ (In w a → ⊥)
+outside-says w a = (
+  λ e i. true≢false (sym (rw (le-leb _ _ (i .0), lt-ltb _ _ (i .1)) at e)),
+  λ h.
+      not-eq-not .0
+      (λ e.
+      let t = and-eq-true-iff (leb (w .start) a) _ .0 (not-false (holds w a) e) in
+      h (leb-true _ _ (t .0), ltb-true _ _ (t .1))),
 )
 
 -- two windows that are not apart share the later start

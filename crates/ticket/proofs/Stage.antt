@@ -1,11 +1,11 @@
--- An admitted command is in order, and the reading has ended after it only if it is the end.
+-- A command's admission is a refusal or what the command leaves; the reading has ended after it only if it is the end.
 -- Assumes nothing.
 use Prim.Native.Nat.{_+_}
 use mathlib.Core.Path.{_≡_, refl}
 use mathlib.Core.Bool.{Bool, true, false, cond}
 use native.Mathlib.Omega.{arith}
 use lib.Dec.{eqb}
-use borrow.Author.Tests.{eqb-true, ne-eqb}
+use borrow.Author.Tests.{ne-eqb}
 use Rattle.commands.specs.declared.command.Command.{Command}
 use Rattle.commands.specs.declared.command.Command.the-variants as Command
 use Rattle.answers.specs.declared.Refusal.{Refusal}
@@ -13,22 +13,23 @@ use Rattle.commands.specs.declared.progress.Progress.{Progress}
 use Rattle.commands.specs.declared.admit.Admitted.{Admitted}
 use Rattle.commands.specs.declared.admit.Admitted.the-variants.{Refused, Next}
 use Rattle.commands.specs.Rows.{headerLength}
+use Rattle.commands.specs.Command.{stageOf}
 use Rattle.commands.specs.Progress.{afterOf, ended}
-use Rattle.commands.specs.Cause.{inOrder, commandCauseOf}
+use Rattle.commands.specs.Cause.{commandCauseOf}
 use Rattle.commands.specs.Admit.{admitOf}
-use Rattle.commands.proofs.Causes.{in-order, allowed}
 use Rattle.commands.proofs.HeaderLaw.{header-law}
 
--- what holds of every refusal, and of what a command in order leaves, holds of what the command's admission gives
-module _ (p : Progress) (c : Command) (P : Admitted → Type 0) (refuses : (r : Refusal) →
-    P (Refused r)) (goes : inOrder p c ≡ true → P (Next (afterOf p c))) where
-  by-cause : (r : Refusal) (b : Bool) → eqb (commandCauseOf p c) 0 ≡ b → P (cond b (Next (afterOf p c)) (Refused r))
-  by-cause r true e = goes (allowed p c (eqb-true _ _ e) .ordered)
-  by-cause r false e = refuses r
+-- what holds of every refusal at the command's offset, and of what the command leaves, holds of what its admission
+-- gives
+module _ (p : Progress) (c : Command) (P : Admitted → Type 0)
+    (refuses : (r : Refusal) → r .place ≡ p .at → P (Refused r)) (goes : P (Next (afterOf p c))) where
+  by-cause : (r : Refusal) → r .place ≡ p .at → (b : Bool) → P (cond b (Next (afterOf p c)) (Refused r))
+  by-cause r e true = goes
+  by-cause r e false = refuses r e
 
   pub by-admission : P (admitOf p c)
   unfolding admitOf
-  by-admission = by-cause _ (eqb (commandCauseOf p c) 0) refl
+  by-admission = by-cause _ refl (eqb (commandCauseOf p c) 0)
 
 -- whether a command is the end
 abbrev pub ends : Command → Bool
@@ -37,11 +38,10 @@ ends (Command.Mark a k) = false
 ends (Command.Name a t) = false
 ends Command.End = true
 
-pub stage-after : (p : Progress) (c : Command) → inOrder p c ≡ true → ended (afterOf p c) ≡ ends c
+pub stage-after : (p : Progress) (c : Command) → ended (afterOf p c) ≡ ends c
 unfolding afterOf
-stage-after p (Command.Header c) h =
-    ne-eqb (p .stage + 1) (headerLength + 1)
-    (omega (arith, in-order p (Command.Header c) h .0, header-law (p .header) c .early))
-stage-after p (Command.Mark a k) h = rw (in-order p (Command.Mark a k) h .0)
-stage-after p (Command.Name a t) h = rw (in-order p (Command.Name a t) h .0)
-stage-after p Command.End h = rw (in-order p Command.End h .0)
+stage-after p (Command.Header c) =
+    ne-eqb (stageOf (Command.Header c) + 1) (headerLength + 1) (omega (arith, header-law (p .header) c .early))
+stage-after p (Command.Mark a k) = refl
+stage-after p (Command.Name a t) = refl
+stage-after p Command.End = refl

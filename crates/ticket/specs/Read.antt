@@ -27,7 +27,7 @@ abbrev pub admittedAs : Admitted → Command → NextCommand
 admittedAs (Admitted.Refused r) c = NextCommand.Refused r
 admittedAs (Admitted.Next q) c = NextCommand.Next q c
 
--- 1: unknown command byte; 2: no command byte left, or operands cut short; then 3 to 7
+-- 1: unknown command byte; 2: no command byte left, or operands cut short; then 3 to 7 and 29
 abbrev pub parsedAs : ParsedCommand → Progress → NextCommand
 parsedAs Unknown p = NextCommand.Refused (refusal 1 (p .at))
 parsedAs Cut p = NextCommand.Refused (refusal 2 (p .at))

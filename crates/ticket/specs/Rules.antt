@@ -1,5 +1,5 @@
 -- What must hold of a ticket's fields for it to be read, stated without order or computation (document 01, "The
--- ticket", and causes 3 to 7).
+-- ticket", and causes 3 to 7; document 02, e, and its 29).
 -- Assumes nothing.
 use Prim.Native.Nat.{ℕ, _+_, _≤_, _<_}
 use mathlib.Core.Path.{_≡_}
@@ -15,7 +15,7 @@ use Rattle.ticket.specs.declared.fields.Name.the-variants.{Absent, Text}
 use Rattle.ticket.specs.declared.fields.Mark.{Mark}
 use Rattle.ticket.specs.Fields.{Fields, read}
 use Rattle.ticket.specs.Read.{readOf}
-use Rattle.ticket.specs.Write.{bytesOf}
+use Rattle.ticket.specs.Spells.{Spells}
 use Rattle.ticket.specs.RoundTrip.{FitsFields}
 
 abbrev pub Between : ℕ → ℕ → ℕ → Type 0
@@ -44,6 +44,7 @@ pub record HeaderRules (h : Header) : Type 0 where
   pub data-apart : Apart (h .code) (h .«data»)
   pub stack-apart-code : Apart (h .code) (h .stack)
   pub stack-apart-data : Apart (h .«data») (h .stack)
+  pub home-outside : In (h .code) (h .home) → ⊥
 
 pub record ClaimRules (k : Claim) : Type 0 where
   pub cost-range : k .cost .0 ≤ 2000000
@@ -71,6 +72,6 @@ pub record Readable (f : Fields) : Type 0 where
   pub mark-rules : Every (MarkRules (f .header)) (f .marks)
   pub rising : Rising (f .marks)
 
--- bytes are read as some fields exactly where they are the fields' bytes and every rule at reading holds
+-- bytes are read as some fields exactly where they state the fields and every rule at reading holds
 abbrev pub ReadByTheRules : List ℕ → Type 0
-ReadByTheRules s = (f : Fields) → (readOf s ≡ read f) ↔ ((bytesOf f ≡ s) × FitsFields f × Readable f)
+ReadByTheRules s = (f : Fields) → (readOf s ≡ read f) ↔ (Spells f s × FitsFields f × Readable f)

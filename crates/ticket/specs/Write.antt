@@ -1,5 +1,6 @@
--- The bytes of a ticket, and what the writer answers: 3 to 7 on the fields first, with the offset that the command
--- would have, then 24 with the bytes needed (document 01, "The ticket", "Where a ticket stops").
+-- The bytes of a ticket, and what the writer answers: 3 to 7 and 29 on the fields first, with the offset that the
+-- command would have, then 24 with the bytes needed (document 01, "The ticket", "Where a ticket stops"). The writer
+-- always writes home (document 02, e).
 -- Assumes nothing.
 use Prim.Native.Nat.{ℕ}
 use mathlib.Core.Bool.{cond}

@@ -13,8 +13,8 @@ pub struct Reading {
     pub ticket: Ticket,
 }
 
-// How many bytes were written, or why none was: document 01's 3 to 7 with the offset that the command would have, or 24
-// with the bytes needed.
+// How many bytes were written, or why none was: 3 to 7 or 29 with the offset that the command would have, or 24 with
+// the bytes needed.
 pub enum Written {
     Length(u32),
     Refused(Refusal),

@@ -29,7 +29,8 @@ pub mod fields; // the ticket and its marks
 mod reader; // a command at a time
 mod writer; // checks first, then the bytes
 
-// The ticket that some bytes are, or the first failure in file order. Written again, it has the same bytes.
+// The ticket that some bytes are, or the first failure in file order. Written again, one that carries home has the same
+// bytes; one without gains home $0000.
 pub fn read(bytes: &[u8]) -> Reading
     ensures { λ r. ⌜ (r ≡ readingOf (readOf (now (bytes .entry))))
         × ReadByTheRules (now (bytes .entry))

@@ -55,8 +55,8 @@ fn mark_checked(a: Admitted, m: Mark) -> Admitted
     }
 }
 
-// Document 01's 3 to 7 on the fields, with the offset that the command would have. That every number fits its command's
-// bytes is what the types say.
+// Document 01's 3 to 7 and document 02's 29 on the fields, with the offset that the command would have. That every
+// number fits its command's bytes is what the types say.
 pub fn check(t: Ticket) -> Admitted
     ensures { λ r. ⌜ (r ≡ checkOf (fieldsOf t)) × FitsFields (fieldsOf t) ⌝ }
 {

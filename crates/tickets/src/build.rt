@@ -33,7 +33,7 @@ fn put(out: &mut [u8], at: usize, b: u8) -> usize {
     at
 }
 
-fn put_all(out: &mut [u8], at: usize, s: &[u8]) -> usize {
+pub fn put_all(out: &mut [u8], at: usize, s: &[u8]) -> usize {
     let mut next = at;
     for i in 0..s.len() {
         next = put(out, next, s[i]);

@@ -1,6 +1,6 @@
 // Tickets given to the writer as fields, one to a line, and what it answers. A line has, in hexadecimal and each at its
-// place: = and the ticket to begin with (H with two marks, the first with a name, which takes 56 bytes, or L with 4,096
-// marks and their names); the room that the output has; the three windows, the entry and the limit; the number of
+// place: = and the ticket to begin with (H with two marks, the first with a name, which takes 59 bytes, or L with 4,096
+// marks and their names); the room that the output has; the three windows, the entry, the limit and home; the number of
 // marks; then an index and the mark that goes there, its address, cost, depth and need, and N with a name or - without.
 // The rest of the line says what is altered.
 use crate::build::build;
@@ -60,24 +60,25 @@ fn header(s: &[u8]) -> Header {
         stack,
         entry: word(s, 42),
         limit: Cycles(long(s, 47)),
+        home: word(s, 56),
     }
 }
 
 fn name(s: &[u8]) -> Name {
-    if byte_at(s, 90) == b'N' {
-        return Name::Text((long(s, 92) as u64) * 4294967296 + (long(s, 100) as u64));
+    if byte_at(s, 95) == b'N' {
+        return Name::Text((long(s, 97) as u64) * 4294967296 + (long(s, 105) as u64));
     }
     Name::Absent
 }
 
 fn mark(s: &[u8]) -> Mark {
     let claim = Claim {
-        cost: Cycles(long(s, 71)),
-        depth: StackBytes(word(s, 80)),
-        need: StackBytes(word(s, 85)),
+        cost: Cycles(long(s, 76)),
+        depth: StackBytes(word(s, 85)),
+        need: StackBytes(word(s, 90)),
     };
     Mark {
-        address: word(s, 66),
+        address: word(s, 71),
         claim,
         name: name(s),
     }
@@ -87,13 +88,13 @@ fn altered(s: &[u8]) -> Ticket {
     let t = base_ticket(byte_at(s, 1));
     let header = header(s);
     let mut marks = t.marks;
-    let i = word(s, 61) as usize;
+    let i = word(s, 66) as usize;
     if i < 4096 {
         marks[i] = mark(s);
     }
     Ticket {
         header,
-        count: word(s, 56),
+        count: word(s, 61),
         marks,
     }
 }
@@ -135,10 +136,10 @@ fn write_in(t: Ticket, out: &mut [u8], room: usize) -> Written {
 
 pub fn wrote(s: &[u8]) {
     let mut out = [0xaau8; 90200];
-    if s.len() < 109 {
+    if s.len() < 114 {
         return;
     }
-    text(&s[109..]);
+    text(&s[114..]);
     text(b" -> ");
     let w = write_in(altered(s), &mut out, long(s, 3) as usize);
     if kept(answer(w), &out) {

@@ -1,5 +1,5 @@
-// Tickets read and written: each as a short text, and what is answered. The file stdout has document 01's answers,
-// worked out by hand.
+// Tickets read and written: each as a short text, and what is answered. The file stdout has the answers of document 01,
+// and document 02's of home, worked out by hand.
 use output::text;
 
 mod build; // a ticket's bytes from a short text

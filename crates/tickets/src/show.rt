@@ -1,5 +1,7 @@
-// A ticket as a text, and what reading it answers; where it is read it is written again.
+// A ticket as a text, and what reading it answers; where it is read it is written again: the same where it has $07,
+// else with home $0000 added, which it means.
 use crate::build::build;
+use crate::build::put_all;
 use crate::print::refusal;
 use check::same;
 use output::decimal;
@@ -30,6 +32,52 @@ fn again(t: Ticket, bytes: &[u8]) -> bool {
     }
 }
 
+// Whether $07 follows the 22 bytes of the commands up to the entry.
+fn has_home(bytes: &[u8]) -> bool {
+    if bytes.len() < 23 {
+        return false;
+    }
+    bytes[22] == 7
+}
+
+// A ticket without $07, and $07 with $0000 put where it belongs: how many bytes.
+fn with_home(bytes: &[u8], out: &mut [u8]) -> usize {
+    if bytes.len() < 22 {
+        return 0;
+    }
+    let entry = put_all(out, 0, &bytes[0..22]);
+    let home = put_all(out, entry, b"\x07\x00\x00");
+    put_all(out, home, &bytes[22..])
+}
+
+fn again_with_home(t: Ticket, bytes: &[u8]) -> bool {
+    let mut longer = [0u8; 90200];
+    let n = with_home(bytes, &mut longer);
+    if 90200 < n {
+        return false;
+    }
+    again(t, &longer[0..n])
+}
+
+fn outcome(right: bool, said: &[u8]) {
+    if right {
+        text(said);
+    } else {
+        text(b"WRITTEN AGAIN OTHERWISE");
+    }
+}
+
+fn rewritten(t: Ticket, bytes: &[u8]) {
+    if has_home(bytes) {
+        outcome(again(t, bytes), b"written again the same");
+    } else {
+        outcome(
+            again_with_home(t, bytes),
+            b"written again with 07 0000 added",
+        );
+    }
+}
+
 fn answered(bytes: &[u8]) {
     let r = read(bytes);
     let answer = r.answer;
@@ -39,11 +87,8 @@ fn answered(bytes: &[u8]) {
         ReadAnswer::Read => {
             text(b"read, ");
             decimal(t.count as u64);
-            if again(t, bytes) {
-                text(b" marks, written again the same");
-            } else {
-                text(b" marks, WRITTEN AGAIN OTHERWISE");
-            }
+            text(b" marks, ");
+            rewritten(t, bytes);
         }
     }
 }

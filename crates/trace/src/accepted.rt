@@ -11,6 +11,7 @@ use registers::StackBytes;
 use registers::word::wrapping_add;
 use registers::word::wrapping_sub;
 use stepper::answer::Ran;
+use stepper::environment::Environment;
 use stepper::run;
 use text::last::Totals;
 use text::last::put_home;
@@ -50,6 +51,7 @@ fn walk(t: Ticket, r: Registers, mem: [u8; 65536], total: u32, cost: Cycles, sum
 fn trace(
     t: Ticket,
     r: Registers,
+    e: Environment,
     mem: [u8; 65536],
     o: Options,
     cost: Cycles,
@@ -57,7 +59,7 @@ fn trace(
 ) {
     let mut copy = mem;
     let budget = if o.limited { o.budget } else { cost.0 };
-    match run(r, &mut copy, budget) {
+    match run(r, &mut copy, e, budget) {
         Ran::Home(q, k) => {
             walk(t, r, mem, k.0, cost, o.summary);
             home(Totals {
@@ -66,6 +68,7 @@ fn trace(
                 stack: used(r, q),
                 certified,
                 lowest: q.lowest,
+                home: e.home,
             });
         }
         Ran::Spent(q, k) => {
@@ -76,6 +79,7 @@ fn trace(
                 stack: used(r, q),
                 certified,
                 lowest: q.lowest,
+                home: e.home,
             });
         }
         Ran::Refused(_, _, _) => {}
@@ -94,10 +98,10 @@ pub fn accepted(
     let start = o.start;
     match start_routine(ticket, image, start, &mut m) {
         Started::Refused(x) => refused(x, ticket, image),
-        Started::At(r) => {
+        Started::At(r, home) => {
             let reading = read(ticket);
             let t = reading.ticket;
-            trace(t, r, m, o, cost, stack);
+            trace(t, r, Environment { home }, m, o, cost, stack);
         }
     }
 }

@@ -5,6 +5,7 @@
 use accepted::accepted;
 use answers::Verdict;
 use bad_argument::say_why;
+use explain::of_file;
 use explain::refused;
 use explain::refused_file;
 use files::load;
@@ -52,15 +53,15 @@ fn judge(o: Options, ticket: &[u8], image: &[u8], mem: [u8; 65536]) {
     }
 }
 
-// The same for an S-record file, with a buffer for the image that it names. From 25 on the file itself is refused, and
-// there is no image.
+// The same for an S-record file, with a buffer for the image that it names. Where the file itself is refused there is
+// no image.
 fn judge_records(o: Options, ticket: &[u8], file: &[u8], image: &mut [u8], mem: [u8; 65536]) {
     match verdict_of_records(ticket, file, image) {
         Verdict::Refuse(x) => {
-            if x.number < 25 {
-                refused(x, ticket, image);
-            } else {
+            if of_file(x.number) {
                 refused_file(x, ticket, file);
+            } else {
+                refused(x, ticket, image);
             }
         }
         Verdict::Accept(_, cost, stack) => accepted(o, ticket, image, mem, cost, stack),

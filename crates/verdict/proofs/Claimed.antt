@@ -1,6 +1,6 @@
 -- The start of an accepted routine is the one that the claim supposes.
 -- Assumes nothing.
-use Prim.Native.Nat.{ℕ, _+_, _-_, _≤_, _<_}
+use Prim.Native.Nat.{ℕ, _+_, _-_, _≤_, _<_, _/_, _%_}
 use mathlib.Core.Path.{_≡_, _∙_}
 use mathlib.Core.List.{List}
 use native.Mathlib.Omega.{arith}
@@ -31,24 +31,25 @@ module _ (f : Fields) (H : HeaderRules (f .header)) (m : List ℕ) where
       byte-applied m a (more (λ e. apart a c (omega arith) (omega arith))
       (more (λ e. apart a c (omega arith) (omega arith)) none))
 
-  low : length m ≡ 65536 → byteAt (applied (homeOf f) m) (topOf f) ≡ 0
+  low : length m ≡ 65536 → byteAt (applied (homeOf f) m) (topOf f) ≡ f .header .home % 256
   unfolding byteAt withByte
   low s =
-      getD-set-other (set m (topOf f) 0) (topOf f - 1) (topOf f) 0 0 (omega (arith, H .stack-length .0))
-      ∙ getD-set-same m (topOf f) 0 0 (omega (arith, H .stack-length .0, H .stack-edge))
+      getD-set-other (set m (topOf f) (f .header .home % 256)) (topOf f - 1) (topOf f) (f .header .home / 256) 0
+      (omega (arith, H .stack-length .0))
+      ∙ getD-set-same m (topOf f) (f .header .home % 256) 0 (omega (arith, H .stack-length .0, H .stack-edge))
 
-  high : length m ≡ 65536 → byteAt (applied (homeOf f) m) (topOf f - 1) ≡ 0
+  high : length m ≡ 65536 → byteAt (applied (homeOf f) m) (topOf f - 1) ≡ f .header .home / 256
   unfolding byteAt withByte
   high s =
-      getD-set-same (set m (topOf f) 0) (topOf f - 1) 0 0 (omega (
+      getD-set-same (set m (topOf f) (f .header .home % 256)) (topOf f - 1) (f .header .home / 256) 0 (omega (
         arith,
         H .stack-length .0,
         H .stack-edge,
-        length-set m (topOf f) 0,
+        length-set m (topOf f) (f .header .home % 256),
       ))
 
 module _ (f : Fields) (image m : List ℕ) (A : Accepted f image) (size : length m ≡ 65536) where
-  started : (d : Data) → startedOf (f .header) d image m ≡ At (startOf d (f .header .entry) (topOf f))
+  started : (d : Data) → startedOf (f .header) d image m ≡ At (startOf d (f .header .entry) (topOf f)) (f .header .home)
   unfolding startedOf
   started d = simp (eq-eqb _ _ size, eq-eqb _ _ (A .image-length), last-is f (A .readable .header-rules))
 

@@ -1,8 +1,8 @@
 -- What the verdict on an S-record file promises: all of it is the verdict on the image that the file names.
 -- Assumes nothing.
-use Prim.Native.Nat.{ℕ, _-_, _≤_}
+use Prim.Native.Nat.{ℕ, _-_}
 use mathlib.Core.Path.{_≡_, refl, sym, _∙_}
-use mathlib.Core.Logic.{_⊎_, inl, inr}
+use mathlib.Core.Logic.{_⊎_, inl, inr, ⊎-elim}
 use mathlib.Core.Bool.{Bool, true, false}
 use mathlib.Core.List.{List, []}
 use native.Mathlib.Omega.{arith}
@@ -32,6 +32,7 @@ use Rattle.verdict.specs.Records.{afterVerdict, recordsVerdictOf}
 use Rattle.verdict.specs.Records.{GoodExactly, NamedInto, JudgesWhatIsNamed, KeepsOtherwise}
 use Rattle.verdict.specs.Records.{FileCertified, FileAcceptsExactly, FileRefusedExactly}
 use Rattle.verdict.specs.Records.{FileComesHome, FileRefusalsNumbered, FilePromised}
+use Rattle.verdict.specs.Promise.{VerdictNumber}
 use Rattle.verdict.proofs.Numbered.{numbered}
 
 refuse-accept : (r : Refusal) (e : ℕ) (c : Cycles) (k : StackBytes) → Refuse r ≡ Accept e c k → ⊥
@@ -175,7 +176,7 @@ module _ (ticket file buffer : List ℕ) where
     Answers r = recordsVerdictOf ticket file buffer .answer ≡ Refuse r
 
     abbrev InTables : Refusal → Type 0
-    InTables r = Between 1 20 (r .number) ⊎ Between 25 27 (r .number)
+    InTables r = VerdictNumber (r .number) ⊎ Between 25 27 (r .number)
 
     -- by what is refused: the ticket, the file, the buffer, or the image
     refusals-numbered : FileRefusalsNumbered ticket file buffer
@@ -188,7 +189,7 @@ module _ (ticket file buffer : List ℕ) where
             let g : Good f image = record { ticket-read = t; file-read = n; room = eqb-true _ _ room } in
             inl (numbered ticket image r (rw (judged f image g) at h))
         by-room f image t n false room h =
-            let same : refusal 9 0 ≡ r = refuse-same (rw (t, n, room) at h) in inl (rw (← same) (search arith))
+            let same : refusal 9 0 ≡ r = refuse-same (rw (t, n, room) at h) in inl (rw (← same) (inl (search arith)))
 
         by-file : (f : Fields) → readOf ticket ≡ read f → (o : FileOutcome) → fileOf (f .header .code) file ≡ o
             → Answers r → InTables r
@@ -202,17 +203,17 @@ module _ (ticket file buffer : List ℕ) where
         by-read (read f) t h = by-file f t (fileOf (f .header .code) file) refl h
 
     -- a good file is not refused with 25 to 27
-    good-below : (f : Fields) (image : List ℕ) → readOf ticket ≡ read f → fileOf (f .header .code) file ≡ named image
-        → (r : Refusal) → Answers r → r .number ≤ 20
+    good-numbered : (f : Fields) (image : List ℕ) → readOf ticket ≡ read f → fileOf (f .header .code) file ≡ named image
+        → (r : Refusal) → Answers r → VerdictNumber (r .number)
     unfolding recordsVerdictOf loadOf
-    good-below f image t n r h = by-room (eqb (length buffer) (f .header .code .length)) refl
+    good-numbered f image t n r h = by-room (eqb (length buffer) (f .header .code .length)) refl
       where
-        by-room : (b : Bool) → eqb (length buffer) (f .header .code .length) ≡ b → r .number ≤ 20
+        by-room : (b : Bool) → eqb (length buffer) (f .header .code .length) ≡ b → VerdictNumber (r .number)
         by-room true room =
             let g : Good f image = record { ticket-read = t; file-read = n; room = eqb-true _ _ room } in
-            numbered ticket image r (rw (judged f image g) at h) .1
+            numbered ticket image r (rw (judged f image g) at h)
         by-room false room =
-            let same : refusal 9 0 ≡ r = refuse-same (rw (t, n, room) at h) in rw (← same) (search arith)
+            let same : refusal 9 0 ≡ r = refuse-same (rw (t, n, room) at h) in rw (← same) (inl (search arith))
 
     refused-exactly : FileRefusedExactly ticket file buffer
     refused-exactly f t = (only, if-none)
@@ -220,7 +221,8 @@ module _ (ticket file buffer : List ℕ) where
         only : (r : Refusal) × Answers r × Between 25 27 (r .number)
             → (image : List ℕ) → Names (f .header .code) file image → ⊥
         only (r, h, b) image n =
-            let low = good-below f image t (file-good-exactly f t image .1 n) r h in omega (arith, low, b .0)
+            ⊎-elim (λ (low : Between 1 20 (r .number)). omega (arith, low .1, b .0)) (λ e. omega (arith, b .1))
+            (good-numbered f image t (file-good-exactly f t image .1 n) r h)
 
         if-none : ((image : List ℕ) → Names (f .header .code) file image → ⊥)
             → (r : Refusal) × Answers r × Between 25 27 (r .number)

@@ -2,7 +2,8 @@
 -- from.
 -- Assumes nothing.
 use Prim.Native.Nat.{ℕ, _-_}
-use mathlib.Core.Path.{_≡_, refl, sym, ap}
+use mathlib.Core.Path.{_≡_, refl, sym, ap, subst}
+use Rattle.verdict.specs.Start.{loadedOf}
 use mathlib.Core.Bool.{Bool, true, false, cond}
 use mathlib.Core.List.{List}
 use native.Mathlib.Omega.{arith}
@@ -59,6 +60,7 @@ module _ (ticket image : List ℕ) (bytes : AllBytes ticket) where
                 cost-is = A .2;
                 stack-is = A .3;
               };
+          home-is = refl;
           comes-home = rw (cost, need) at (comes-home f image (A .0) d _ (L .1));
         },
         refl,
@@ -104,28 +106,30 @@ pub verdict-certified : (ticket image : List ℕ) → AllBytes ticket
 unfolding verdictOf certificationOf
 verdict-certified ticket image bytes = verdict-by ticket image bytes (readOf ticket) refl
 
-not-started : (x : Refusal) (r : Registers) → Refused x ≡ At r → ⊥
-not-started x r h = let z : _≡_ {A = ℕ} 0 1 = cc in omega arith
+not-started : (x : Refusal) (r : Registers) (home : ℕ) → Refused x ≡ At r home → ⊥
+not-started x r home h = let z : _≡_ {A = ℕ} 0 1 = cc in omega arith
 
 module _ (ticket image : List ℕ) (d : Data) (m : List ℕ) where
   abbrev Home : AfterStart → Type 0
-  Home b = (r : Registers) → b .answer ≡ At r → StartCertified ticket image r (b .memory)
+  Home b =
+      (r : Registers) (home : ℕ) → b .answer ≡ At r home → StartCertified ticket image r home (b .memory)
 
   -- by the certification
   home-by : (bytes : AllBytes ticket) → length m ≡ 65536 → (a : Certification) → Homeward ticket image bytes a
       → Home (startRoutineBy a d image m)
-  home-by bytes size (Certification.Refused x) H r s = absurd (not-started x r s)
-  home-by bytes size (Certification.Granted c) H r s =
+  home-by bytes size (Certification.Refused x) H r home s = absurd (not-started x r home s)
+  home-by bytes size (Certification.Granted c) H r home s =
       let S = H d m size in
       let same : S .0 ≡ r = cc in
-      rw same at (S .2)
+      let same-home : c .header .home ≡ home = cc in
+      subst (λ (h : ℕ). StartCertified ticket image r h (loadedOf (c .header) image m)) same-home (rw same at (S .2))
 
   -- by whether the memory has 65,536 bytes
   home-sized : (bytes : AllBytes ticket) (b : Bool) → eqb (length m) 65536 ≡ b
       → Home (cond b (startRoutineBy (certificationOf ticket image) d image m) (afterStart (Refused (refusal 21 0)) m))
-  home-sized bytes true e r s =
-      home-by bytes (eqb-true _ _ e) (certificationOf ticket image) (homeward ticket image bytes) r s
-  home-sized bytes false e r s = absurd (not-started (refusal 21 0) r s)
+  home-sized bytes true e r home s =
+      home-by bytes (eqb-true _ _ e) (certificationOf ticket image) (homeward ticket image bytes) r home s
+  home-sized bytes false e r home s = absurd (not-started (refusal 21 0) r home s)
 
 pub started-comes-home : (ticket image : List ℕ) → AllBytes ticket → (d : Data) (m : List ℕ) →
     StartedComesHome ticket image d m

@@ -7,3 +7,4 @@ pub mod Promised
 pub mod Reading
 pub mod Home
 pub mod FilePromised
+pub mod OldTicket

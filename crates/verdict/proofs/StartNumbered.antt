@@ -23,7 +23,7 @@ use Rattle.verdict.specs.declared.Started.the-variants.{At, Refused}
 use Rattle.verdict.specs.Certification.{certificationIf, certificationBy, certificationOf}
 use Rattle.verdict.specs.Start.{startedOf}
 use Rattle.verdict.specs.Routine.{afterStart, startRoutineBy, startRoutineOf}
-use Rattle.verdict.proofs.Numbered.{numbered}
+use Rattle.verdict.proofs.Numbered.{numbered, number-positive}
 
 abbrev RefusesNotZero : Verdict → Type 0
 RefusesNotZero v = (r : Refusal) → v ≡ Refuse r → 1 ≤ r .number
@@ -33,7 +33,7 @@ CertificationNotZero (Certification.Granted c) = Unit
 CertificationNotZero (Certification.Refused r) = 1 ≤ r .number
 
 abbrev NotZero : Started → Type 0
-NotZero (At q) = Unit
+NotZero (At q home) = Unit
 NotZero (Refused r) = 1 ≤ r .number
 
 if-not-zero : (h : Header) (v : Verdict) → RefusesNotZero v → CertificationNotZero (certificationIf v h)
@@ -47,18 +47,19 @@ by-not-zero image (read f) p = if-not-zero (f .header) (verdictOn f image) p
 
 certification-not-zero : (ticket image : List ℕ) → CertificationNotZero (certificationOf ticket image)
 unfolding certificationOf verdictOf
-certification-not-zero ticket image = by-not-zero image (readOf ticket) (λ r h. numbered ticket image r h .0)
+certification-not-zero ticket image =
+    by-not-zero image (readOf ticket) (λ r h. number-positive (numbered ticket image r h))
 
 pub certification-numbered : (ticket image : List ℕ) (r : Refusal)
     → certificationOf ticket image ≡ Certification.Refused r → 1 ≤ r .number
 certification-numbered ticket image r h = rw h at (certification-not-zero ticket image)
 
 -- by the start's two tests
-tests-not-zero : (a b : Bool) (q : Registers) → NotZero (cond a (cond b (At q) (Refused (refusal 9 0)))
+tests-not-zero : (a b : Bool) (q : Registers) (home : ℕ) → NotZero (cond a (cond b (At q home) (Refused (refusal 9 0)))
     (Refused (refusal 21 0)))
-tests-not-zero true true q = tt
-tests-not-zero true false q = omega arith
-tests-not-zero false b q = omega arith
+tests-not-zero true true q home = tt
+tests-not-zero true false q home = omega arith
+tests-not-zero false b q home = omega arith
 
 module _ (image : List ℕ) (d : Data) (m : List ℕ) where
   started-not-zero : (h : Header) → NotZero (startedOf h d image m)

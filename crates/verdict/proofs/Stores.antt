@@ -1,6 +1,6 @@
 -- Where the start's stores go, and what a byte is after the image's.
 -- Assumes nothing.
-use Prim.Native.Nat.{ℕ, zero, suc, _+_, _-_, _≤_, _<_}
+use Prim.Native.Nat.{ℕ, zero, suc, _+_, _-_, _≤_, _<_, _/_, _%_}
 use mathlib.Core.Path.{_≡_, sym, _∙_}
 use mathlib.Core.List.{List, [], _∷_}
 use native.Mathlib.Omega.{arith}
@@ -56,7 +56,7 @@ image-read a (b ∷ bs) m (suc i) h l s o =
 
 -- home's stores, where nothing wraps
 abbrev pub homeOf : Fields → List Store
-homeOf f = store (topOf f) 0 ∷ store (topOf f - 1) 0 ∷ []
+homeOf f = store (topOf f) (f .header .home % 256) ∷ store (topOf f - 1) (f .header .home / 256) ∷ []
 
 module _ (f : Fields) (H : HeaderRules (f .header)) where
   pub last-is : lastOf (f .header .stack) ≡ topOf f

@@ -14,6 +14,7 @@ use Rattle.answers.specs.declared.Verdict.the-variants.{Accept, Refuse}
 use Rattle.ticket.specs.Fields.{Fields, ReadOutcome, read, refused}
 use Rattle.ticket.specs.Read.{readOf}
 use Rattle.ticket.specs.Rules.{Between}
+use Rattle.verdict.specs.Promise.{VerdictNumber}
 use Rattle.records.specs.declared.answer.Loaded.{Loaded}
 use Rattle.records.specs.declared.answer.Loaded.the-variants as Loaded
 use Rattle.records.specs.Record.{Names}
@@ -36,7 +37,7 @@ abbrev pub loadedVerdict : Fields → Loaded → List ℕ → AfterVerdict
 loadedVerdict f (Loaded.Refused r) image = afterVerdict (Refuse r) image
 loadedVerdict f Loaded.Done image = afterVerdict (verdictOn f image) image
 
--- 1 to 8 of the ticket; 25 to 27 of the file, and 9 of the buffer; then 10 to 20
+-- 1 to 8 and 29 of the ticket; 25 to 27 of the file, and 9 of the buffer; then 10 to 20
 abbrev pub recordsVerdictBy : ReadOutcome → List ℕ → List ℕ → AfterVerdict
 recordsVerdictBy (refused r) file buffer = afterVerdict (Refuse r) buffer
 recordsVerdictBy (read f) file buffer =
@@ -100,11 +101,11 @@ FileRefusedExactly ticket file buffer =
     → ((r : Refusal) × (recordsVerdictOf ticket file buffer .answer ≡ Refuse r) × Between 25 27 (r .number))
     ↔ ((image : List ℕ) → Names (f .header .code) file image → ⊥)
 
--- a refusal's number is 1 to 20, or 25 to 27
+-- a refusal's number is the verdict's, or 25 to 27
 abbrev pub FileRefusalsNumbered : List ℕ → List ℕ → List ℕ → Type 0
 FileRefusalsNumbered ticket file buffer =
     (r : Refusal) → recordsVerdictOf ticket file buffer .answer ≡ Refuse r
-    → Between 1 20 (r .number) ⊎ Between 25 27 (r .number)
+    → VerdictNumber (r .number) ⊎ Between 25 27 (r .number)
 
 abbrev pub FilePromised : List ℕ → List ℕ → List ℕ → Type 0
 FilePromised ticket file buffer =

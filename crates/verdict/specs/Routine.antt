@@ -41,25 +41,27 @@ startRoutineOf ticket image d m =
     cond (eqb (length m) 65536) (startRoutineBy (certificationOf ticket image) d image m)
     (afterStart (Refused (refusal 21 0)) m)
 
--- from the registers and the memory that are answered, the routine comes home
-pub record StartCertified (ticket image : List ℕ) (r : Registers) (m : List ℕ) : Type 0 where
+-- from the registers and the memory that are answered, the routine comes to the home that is answered, which is the
+-- ticket's
+pub record StartCertified (ticket image : List ℕ) (r : Registers) (home : ℕ) (m : List ℕ) : Type 0 where
   pub entry : ℕ
   pub cost : Cycles
   pub stack : StackBytes
   pub certified : Certified ticket image entry cost stack
-  pub comes-home : ComesHome (certified .fields) (cost .0) (stack .0 - 2) r m
+  pub home-is : home ≡ certified .fields .header .home
+  pub comes-home : ComesHome (certified .fields) (record { home = home }) (cost .0) (stack .0 - 2) r m
 
 abbrev pub StartedComesHome : List ℕ → List ℕ → Data → List ℕ → Type 0
 StartedComesHome ticket image d m =
-    (r : Registers) → startRoutineOf ticket image d m .answer ≡ At r →
-    StartCertified ticket image r (startRoutineOf ticket image d m .memory)
+    (r : Registers) (home : ℕ) → startRoutineOf ticket image d m .answer ≡ At r home →
+    StartCertified ticket image r home (startRoutineOf ticket image d m .memory)
 
 -- a start by the certificate's header succeeds and comes home, within its figures
 abbrev pub StartComesHome : List ℕ → List ℕ → Certificate → Data → List ℕ → Type 0
 StartComesHome ticket image c d m =
     (r : Registers)
-    × (startedOf (c .header) d image m ≡ At r)
-    × (C : StartCertified ticket image r (loadedOf (c .header) image m))
+    × (startedOf (c .header) d image m ≡ At r (c .header .home))
+    × (C : StartCertified ticket image r (c .header .home) (loadedOf (c .header) image m))
     × (C .cost ≡ c .cost)
     × (C .stack ≡ c .stack)
 

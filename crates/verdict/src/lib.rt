@@ -64,8 +64,8 @@ pub fn certify(ticket: &[u8], image: &[u8]) -> Certification
     }
 }
 
-// Accepts if and only if every ticket rule holds; else the first cause in document 01's order, with its place. An
-// accepted routine comes home.
+// Accepts if and only if every ticket rule holds; else the first cause in document 01's order, 29 among those at
+// reading, with its place. An accepted routine comes home.
 pub fn verdict(ticket: &[u8], image: &[u8]) -> Verdict
     ensures { λ r. ⌜ (r ≡ verdictOf (now (ticket .entry)) (now (image .entry)))
         × Promised (now (ticket .entry)) (now (image .entry)) ⌝ }
@@ -80,9 +80,9 @@ pub fn verdict(ticket: &[u8], image: &[u8]) -> Verdict
     }
 }
 
-// The verdict on a routine whose image is an S-record file: the first cause of the ticket (1 to 8), of the file (25 to
-// 27), of the buffer's length (9), of the marks and of the whole (10 to 20). The buffer is written only where all up to
-// 9 is good, and then it is the image that the file names. An accepted routine comes home.
+// The verdict on a routine whose image is an S-record file: the first cause of the ticket (1 to 8, 29), of the file (25
+// to 27), of the buffer's length (9), of the marks and of the whole (10 to 20). The buffer is written only where all up
+// to 9 is good, and then it is the image that the file names. An accepted routine comes home.
 pub fn verdict_of_records(ticket: &[u8], file: &[u8], image: &mut [u8]) -> Verdict
     ensures { λ r. ⌜ (afterVerdict r (now (image .exit)) ≡ recordsVerdictOf (now (ticket .entry)) (now (file .entry))
         (now (image .entry))) × FilePromised (now (ticket .entry)) (now (file .entry)) (now (image .entry)) ⌝ }
@@ -103,14 +103,15 @@ pub fn verdict_of_records(ticket: &[u8], file: &[u8], image: &mut [u8]) -> Verdi
     }
 }
 
-// The registers at the start, or a refusal: 21 for the memory's length, 9 for the image's, or the verdict's.
+// The registers at the start and home, which a run is then given; or a refusal: 21 for the memory's length, 9 for the
+// image's, or the verdict's.
 pub enum Started {
-    At(Registers),
+    At(Registers, u16),
     Refused(Refusal),
 }
 
-// Document 01's start, from the header of an accepted ticket: the image fills the code window and home goes in as two
-// zero bytes. Of a header that no ticket can have, addresses wrap.
+// The start, from the header of an accepted ticket: the image fills the code window and home's two bytes go to the end
+// of the stack window. Of a header that no ticket can have, addresses wrap.
 pub fn start(h: Header, image: &[u8], d: Data, memory: &mut [u8]) -> Started
     ensures { λ r. ⌜ (r ≡ startedOf h d (now (image .entry)) (now (memory .entry)))
         × (now (memory .exit) ≡ loadedOf h (now (image .entry)) (now (memory .entry)))
@@ -126,8 +127,8 @@ pub fn start(h: Header, image: &[u8], d: Data, memory: &mut [u8]) -> Started
     }
     let top = last_of(stack);
     fill(code.start, image, memory);
-    store_home(top, memory);
-    Started::At(Registers::start(d, h.entry, top))
+    store_home(top, h.home, memory);
+    Started::At(Registers::start(d, h.entry, top), h.home)
 }
 
 // Judges a routine and, where it is accepted, starts it: what is started comes home. Else the number and place of the

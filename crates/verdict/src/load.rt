@@ -30,12 +30,12 @@ pub fn fill(from: u16, image: &[u8], memory: &mut [u8])
     }
 }
 
-// Home's two zero bytes.
-pub fn store_home(top: u16, memory: &mut [u8])
+// Home's two bytes: the high one below the low one, where RTS finds them.
+pub fn store_home(top: u16, home: u16, memory: &mut [u8])
     requires { ⌜ length (now memory) ≡ 65536 ⌝ }
-    ensures { λ _. ⌜ (now (memory .exit) ≡ applied (homeStores top) (now (memory .entry)))
+    ensures { λ _. ⌜ (now (memory .exit) ≡ applied (homeStores top home) (now (memory .entry)))
         × (length (now (memory .exit)) ≡ 65536) ⌝ }
 {
-    put_byte(memory, top, 0);
-    put_byte(memory, wrapping_sub(top, 1), 0);
+    put_byte(memory, top, (home % 256) as u8);
+    put_byte(memory, wrapping_sub(top, 1), (home / 256) as u8);
 }

@@ -5,6 +5,7 @@
 	data_window 0x0040, 1
 	stack_window 0x01f0, 16
 	entry_point entry, 200
+	home_point 0xe000
 
 ; Before its caller, with a branch, and a call of one that stands after everything: not known yet when it is called.
 	mark	cost_after + cost_late + 6, 0, 4, at=early

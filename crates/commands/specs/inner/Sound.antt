@@ -19,7 +19,7 @@ abbrev pub widthAt : List CommandRow → ℕ → ℕ
 widthAt [] n = 0
 widthAt (r ∷ rs) n = cond (eqb (r .stage) n) (1 + sizeOf (r .operands)) (widthAt rs n)
 
--- the bytes of as many commands of the header, and of the end after them
+-- the bytes of as many commands of the header, none left out, and of the end after them
 abbrev pub headerBytes : ℕ → ℕ
 headerBytes zero = 0
 headerBytes (suc n) = headerBytes n + widthAt commandRows n

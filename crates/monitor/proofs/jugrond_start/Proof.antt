@@ -1,6 +1,7 @@
 -- `monitor::jugrond_start` meets its contract; the ticket is a list of bytes.
 -- Assumes nothing.
 use borrow.Author.Needs.{needs}
+use mathlib.Core.Path.{_∙_}
 use Rattle.commands.proofs.Digits.{all-bytes}
 use Rattle.monitor.proofs.BytesHome.{started-bytes-come-home}
 use Rattle.monitor.proofs.jugrond_start.Statement.{statement}
@@ -8,10 +9,10 @@ use Rattle.monitor.proofs.jugrond_start.Tie as tie
 
 returns : tie.Need-returns
 returns c =
-    let d = c .before .before .before .before .before .before in
+    let d = c .before .before .before .before .before .before .before in
     let s = d .before .before .before .before .before .before in (
-      rw (c .answer .ensures .0, c .answer .ensures .1) (d .start-on .ensures _),
-      started-bytes-come-home _ _ _ _ _ (all-bytes _ (λ i. s .shared-slice-known .given i .fits)),
+      c .answer-start .ensures _ _ ∙ d .start-on .ensures _ _,
+      started-bytes-come-home _ _ _ _ _ _ (all-bytes _ (λ i. s .shared-slice-known .given i .fits)),
     )
 
 pub jugrond-start-spec : {M : Type 1} → statement M

@@ -1,14 +1,15 @@
 -- `monitor::jugrond_start_certified` meets its contract.
 -- Assumes nothing.
 use borrow.Author.Needs.{needs}
+use mathlib.Core.Path.{_∙_}
 use Rattle.monitor.proofs.SlotHome.{starts-from-filled-slot}
 use Rattle.monitor.proofs.jugrond_start_certified.Statement.{statement}
 use Rattle.monitor.proofs.jugrond_start_certified.Tie as tie
 
 returns : tie.Need-returns
 returns c =
-    let d = c .before .before .before .before .before .before in (
-      rw (c .answer .ensures .0, c .answer .ensures .1) (d .start-from .ensures _),
+    let d = c .before .before .before .before .before .before .before in (
+      c .answer-start .ensures _ _ ∙ d .start-from .ensures _ _,
       starts-from-filled-slot _ _,
     )
 

@@ -17,16 +17,16 @@ returns c =
 returns-2 : tie.Need-returns-2
 unfolding runOf runFrom
 returns-2 c =
-    let h = eq-eqb _ _ (c .before .before .if1 .left) in
+    let h = eq-eqb _ _ (c .before .before .before .if1 .left) in
     let z = eq-eqb _ _ (c .if2 .taken) in
     (simp (h, z), simp (h, z))
 
 returns-3 : tie.Need-returns-3
 returns-3 c =
     let away = c .before .before .before .before .before in
-    let h = away .before .before in
+    let h = away .before .before .before in
     let z = h .before .before .args in
-    let e = told (begins (z .r) (z .mem .now) (z .budget) (h .if1 .left) (away .if2 .left)) in
+    let e = told (begins (z .env) (z .r) (z .mem .now) (z .budget) (h .if1 .left) (away .if2 .left)) in
     let g = c .before .before .before .run-until .ensures in
     (c .ran .ensures ∙ g .0 ∙ e .0, g .1 ∙ e .1)
 

@@ -17,7 +17,7 @@ returns c =
 returns-2 : tie.Need-returns-2
 returns-2 c =
     let z = c .before .before .before .before .before .before .before .args in
-    let w = one-turn (z .r) (z .mem .now) in
+    let w = one-turn 0 (z .r) (z .mem .now) in
     let u = c .before .before .before .run-until .ensures in
     (c .stepped .ensures ∙ ap asStep (u .0) ∙ w .0, u .1 ∙ w .1)
 

@@ -20,6 +20,7 @@ use Rattle.instructions.specs.Inherent.{replaced, inherentOf}
 use Rattle.instructions.specs.Named.{accumulatorOf, withAccumulator, indexRegisterOf, withIndex, wordRegisterOf, toWord}
 use Rattle.instructions.specs.Interrupt.{stackedOf, interruptedOf, resumedOf}
 use Rattle.instructions.specs.Effect.{effectBy, effectOf}
+use Rattle.stepper.specs.declared.environment.Environment.{Environment}
 use Rattle.stepper.specs.Step.{carriedOut, didOf, stepOf, After}
 use Rattle.stepper.specs.Run.{runFrom, runOf, AfterRun}
 
@@ -31,6 +32,6 @@ unfolding wrappingAdd wrappingSub byteAt wordAt withByte rows costs actions mode
     toWord outcomeOf stackedOf interruptedOf resumedOf effectBy effectOf carriedOut didOf
 stepNow r m = stepOf r m
 
-unfoldable pub runNow : Registers → List ℕ → ℕ → AfterRun
+unfoldable pub runNow : Environment → Registers → List ℕ → ℕ → AfterRun
 unfolding stepOf runFrom stepNow
-runNow r m b = runOf r m b
+runNow env r m b = runOf env r m b

@@ -3,7 +3,8 @@
 use Prim.Native.Nat.{ℕ}
 use mathlib.Core.Path.{_≡_, sym, _∙_}
 use mathlib.Core.Bool.{true, cond}
-use Rattle.commands.specs.Cause.{inOrder, rangesHold, edgesHold, separate, inside, commandCauseOf}
+use Rattle.commands.specs.Cause.{inOrder, rangesHold, edgesHold, separate, homeOutside, inside}
+use Rattle.commands.specs.Cause.{commandCauseOf}
 use Rattle.commands.specs.inner.WindowCause.{windowCauseOf}
 use Rattle.commands.specs.declared.command.Command.{Command}
 use Rattle.commands.specs.declared.progress.Progress.{Progress}
@@ -12,15 +13,19 @@ use borrow.Author.Needs.{needs}
 use Rattle.commands.proofs.cause.cause.Statement.{statement}
 use Rattle.commands.proofs.cause.cause.Tie as tie
 
--- after the tests of order and of ranges: the window's, and then whether a mark lies in the code window
+-- the tests after the window's: whether home lies outside the code window, and a mark in it
+abbrev lastTests : Progress → Command → ℕ
+lastTests p c = cond (homeOutside (p .header) c) (cond (inside (p .header) c) 0 7) 29
+
+-- after the tests of order and of ranges: the window's, and then the last
 module _ (p : Progress) (c : Command) (o : inOrder p c ≡ true) (r : rangesHold c ≡ true) (n : ℕ) (e : n ≡ windowCauseOf
     (p .header) c) where
   stopped : (n ≡ 0 → ⊥) → n ≡ commandCauseOf p c
   unfolding commandCauseOf windowCauseOf
   stopped z =
-      rw (o, r) (e ∙ stops (edgesHold c) (separate (p .header) c) (cond (inside (p .header) c) 0 7) (λ t. z (e ∙ t)))
+      rw (o, r) (e ∙ stops (edgesHold c) (separate (p .header) c) (lastTests p c) (λ t. z (e ∙ t)))
 
-  cleared : n ≡ 0 → cond (inside (p .header) c) 0 7 ≡ commandCauseOf p c
+  cleared : n ≡ 0 → lastTests p c ≡ commandCauseOf p c
   unfolding commandCauseOf windowCauseOf
   cleared z = let w = clear (edgesHold c) (separate (p .header) c) (sym e ∙ z) in rw (o, r, w .0, w .1)
 
@@ -54,18 +59,33 @@ returns-3 c =
     let w = c .before in
     stopped (start w .args .p) (start w .args .c) (ordered w) (ranged w) _ (w .window-cause .ensures) (c .if3 .taken)
 
--- where no test has failed, the last is whether a mark lies in the code window
-last-test : (c : tie.Else3) → let s = start (c .before) in cond (inside (s .args .p .header) (s .args .c)) 0 7
+-- where no test has failed, the last are left
+last-tests : (c : tie.Else3) → let s = start (c .before) in lastTests (s .args .p) (s .args .c)
     ≡ commandCauseOf (s .args .p) (s .args .c)
-last-test c =
+last-tests c =
     let w = c .before in
     cleared (start w .args .p) (start w .args .c) (ordered w) (ranged w) _ (w .window-cause .ensures) (c .if3 .left)
 
 returns-4 : tie.Need-returns-4
-returns-4 c = rw (← last-test (c .before .before), fails (c .before .inside .ensures) (c .if4 .taken))
+returns-4 c = rw (← last-tests (c .before .before), fails (c .before .home-outside .ensures) (c .if4 .taken))
 
 returns-5 : tie.Need-returns-5
-returns-5 c = rw (← last-test (c .before .before), passes (c .before .inside .ensures) (c .if4 .left))
+returns-5 c =
+    let h = c .before .before in
+    rw (
+      ← last-tests (h .before .before),
+      passes (h .before .home-outside .ensures) (h .if4 .left),
+      fails (c .before .inside .ensures) (c .if5 .taken),
+    )
+
+returns-6 : tie.Need-returns-6
+returns-6 c =
+    let h = c .before .before in
+    rw (
+      ← last-tests (h .before .before),
+      passes (h .before .home-outside .ensures) (h .if4 .left),
+      passes (c .before .inside .ensures) (c .if5 .left),
+    )
 
 pub cause-spec : {M : Type 1} → statement M
 cause-spec =
@@ -75,4 +95,5 @@ cause-spec =
     (search needs) returns-2
     (search needs) returns-3
     (search needs) returns-4
-    returns-5)
+    (search needs) returns-5
+    returns-6)

@@ -16,8 +16,10 @@ in-order-spec =
     (search needs)
     row-of-requires
     (search needs)
+    (search needs)
     (λ c. simp (
       c .follows .ensures,
-      c .before .before .before .row-of .ensures,
-      c .before .before .before .before .byte-of .ensures,
+      c .before .may-come .ensures,
+      c .before .before .row-of .ensures,
+      c .before .before .before .byte-of .ensures,
     )))

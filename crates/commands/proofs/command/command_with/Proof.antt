@@ -18,12 +18,15 @@ mark-fits : (c : tie.At-match-keys6) → let v = c .before .args .v in
     (v .first < 65536) × (v .second < 4294967296) × (v .third < 65536) × (v .fourth < 65536)
 mark-fits c = rw (c .match .keys6) at (c .before .pre .1)
 
--- the byte without an arm of its own
-last : (c : tie.At-match-rest) → c .before .args .b ≡ 6
-last c = only (length commandRows) 6 (5 ∷ 4 ∷ 3 ∷ 2 ∷ 1 ∷ 0 ∷ []) (search) _ (c .before .pre .0) (c .match .rest)
+name-fits : (c : tie.At-match-keys7) → c .before .args .v .first < 65536
+name-fits c = let f = rw (c .match .keys7) at (c .before .pre .1) in f .0
 
-name-fits : (c : tie.At-match-rest) → c .before .args .v .first < 65536
-name-fits c = let f = rw (last c) at (c .before .pre .1) in f .0
+-- the byte without an arm of its own
+last : (c : tie.At-match-rest) → c .before .args .b ≡ 7
+last c = only (length commandRows) 7 (6 ∷ 5 ∷ 4 ∷ 3 ∷ 2 ∷ 1 ∷ 0 ∷ []) (search) _ (c .before .pre .0) (c .match .rest)
+
+home-fits : (c : tie.At-match-rest) → c .before .args .v .first < 65536
+home-fits c = let f = rw (last c) at (c .before .pre .1) in f .0
 
 pub command-with-spec : {M : Type 1} → statement M
 command-with-spec =
@@ -39,10 +42,12 @@ command-with-spec =
     (λ c. omega (arith, mark-fits (c .before .before .before)))
     (λ c. omega (arith, mark-fits (c .before .before .before .before)))
     (λ c. omega (arith, name-fits (c .before)))
+    (λ c. omega (arith, home-fits (c .before)))
     (λ c. simp (c .match .keys1))
     (λ c. simp (c .before .match .keys2, c .window .ensures))
     (λ c. simp (c .before .match .keys3, c .window2 .ensures))
     (λ c. simp (c .before .match .keys4, c .window3 .ensures))
     (λ c. simp (c .before .before .match .keys5))
     (λ c. simp (c .before .before .before .before .match .keys6))
+    (λ c. simp (c .before .match .keys7))
     (λ c. simp (last (c .before))))

@@ -9,15 +9,15 @@ use Rattle.monitor.proofs.routine_calls.start_on.Tie as tie
 
 returns : tie.Need-returns
 unfolding startBytesOf
-returns c p = simp (ne-eqb _ _ (c .before .if1 .taken), c .refuse .ensures)
+returns c h p = simp (ne-eqb _ _ (c .before .if1 .taken), c .refuse .ensures)
 
 returns-2 : tie.Need-returns-2
 unfolding startBytesOf
-returns-2 c p =
+returns-2 c h p =
     let s = c .before .before in
     let t = s .before .before .before .before in
     let d = t .before .before in
-    s .stored .ensures p _
+    s .stored .ensures h p _
     ∙ rw (eq-eqb _ _ (d .before .before .if1 .left), ← d .data-in .ensures, ← t .start-routine .ensures .0)
 
 pub start-on-spec : {M : Type 1} → statement M

@@ -11,4 +11,5 @@ returns c = cc
 
 pub header-in-spec : {M : Type 1} → statement M
 header-in-spec =
-    tie.close (tie.spec (search needs) (search needs) (search needs) (search needs) (search needs) returns)
+    tie.close
+    (tie.spec (search needs) (search needs) (search needs) (search needs) (search needs) (search needs) returns)

@@ -7,13 +7,14 @@ use Prim.Native.Nat.{ℕ}
 use lib.ListN.{length}
 use Rattle.verdict.specs.declared.Certificate.{Certificate}
 use Rattle.monitor.proofs.Elements.{all-elements}
-use Rattle.monitor.specs.Slot.{slotOf}
+use Rattle.monitor.specs.Slot.{slotSize, slotOf}
 use Rattle.monitor.proofs.slot.put_slot.Statement.{statement}
 use Rattle.monitor.proofs.slot.put_slot.Tie as tie
 use Rattle.monitor.specs.inner.Put.{putLong, putWindow, putWord}
 
-stored : (bs : List ℕ) → length bs ≡ 24 → (c : Certificate)
+stored : (bs : List ℕ) → length bs ≡ slotSize → (c : Certificate)
     → putWord
+    (putWord
     (putLong
     (putLong
     (putWord (putWindow (putWindow (putWindow bs 0 (c .header .code)) 4 (c .header .«data»)) 8 (c .header .stack)) 12
@@ -23,14 +24,17 @@ stored : (bs : List ℕ) → length bs ≡ 24 → (c : Certificate)
     18
     (c .cost .0))
     22
-    (c .stack .0)
+    (c .stack .0))
+    24
+    (c .header .home)
     ≡ slotOf c
 unfolding slotOf
-stored bs e c = rw (all-elements bs 24 e)
+stored bs e c = rw (all-elements bs slotSize e)
 
 returns : tie.Need-returns
 returns c =
-    let last = c .before .before in
+    let home = c .before .before in
+    let last = home .before .before .before .before in
     let cost = last .before .before .before .before in
     let limit = cost .before .before .before .before in
     let entry = limit .before .before .before .before in
@@ -39,6 +43,7 @@ returns c =
     let code = globals .before .before .before .before in
     let start = code .before .before .before .before .before .before .before in
     rw (
+      home .put-word3 .ensures .0,
       last .put-word2 .ensures .0,
       cost .put-long2 .ensures .0,
       limit .put-long .ensures .0,
@@ -53,6 +58,7 @@ pub put-slot-spec : {M : Type 1} → statement M
 put-slot-spec =
     tie.close
     (tie.spec
+    (λ c κs. search needs)
     (λ c κs. search needs)
     (λ c κs. search needs)
     (λ c κs. search needs)

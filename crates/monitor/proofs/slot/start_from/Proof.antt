@@ -9,28 +9,28 @@ use Rattle.monitor.proofs.slot.start_from.Tie as tie
 
 returns : tie.Need-returns
 unfolding startSlotOf
-returns c p = simp (ne-eqb _ _ (c .before .if1 .taken), c .refuse .ensures)
+returns c h p = simp (ne-eqb _ _ (c .before .if1 .taken), c .refuse .ensures)
 
 returns-2 : tie.Need-returns-2
 unfolding startSlotOf
-returns-2 c p =
+returns-2 c h p =
     simp (eq-eqb _ _ (c .before .before .if1 .left), ne-eqb _ _ (c .before .if2 .taken), c .refuse2 .ensures)
 
 returns-3 : tie.Need-returns-3
 unfolding startSlotOf
-returns-3 c p =
+returns-3 c h p =
     let s = c .before .before in
     let t = s .before .before .before .before in
-    let h = t .before .before in
-    let d = h .before in
+    let i = t .before .before in
+    let d = i .before in
     let l = d .before .before in
-    s .stored .ensures p _
+    s .stored .ensures h p _
     ∙ simp (
       eq-eqb _ _ (l .before .if1 .left),
       eq-eqb _ _ (l .if2 .left),
       t .start .ensures .0,
       t .start .ensures .1,
-      h .header-in .ensures,
+      i .header-in .ensures,
       d .data-in .ensures,
     )
 

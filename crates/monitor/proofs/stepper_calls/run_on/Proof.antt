@@ -22,13 +22,13 @@ returns-2 c k p = bad-memory _ _ _ _ (search needs) (search needs)
 -- where the stepper has answered
 answered : (w : tie.After-run) (k p : ℕ) {a : RunAnswer} → a ≡ ranOf (w .run .result)
     → let z = w .before .before .before .before .before .before .before .before .args in
-    ofRun a p (w .run .last .1 .0) ≡ runBytesOf k p (z .regs .now) (z .mem .now) (z .budget)
+    ofRun a p (w .run .last .1 .0) ≡ runBytesOf k p (z .regs .now) (z .mem .now) (z .home) (z .budget)
 answered w k p e =
     let unpacks = w .before .before in
     let sized = unpacks .before .before in
     let z = sized .before .before .before .before .args in
     runs (z .regs .now) (z .mem .now) (sized .before .if1 .left) (sized .if2 .left) (unpacks .unpack .ensures)
-    k p (z .budget) (e ∙ w .run .ensures .0) (w .run .ensures .1)
+    k p (z .home) (z .budget) (e ∙ w .run .ensures .0) (w .run .ensures .1)
 
 returns-3 : tie.Need-returns-3
 returns-3 c k p =
@@ -50,7 +50,7 @@ address-of-requires c κs =
     let q = c .before .before in
     let w = q .before .before .before .before in
     let e = ap ranOf (sym (q .q3 .given .1)) ∙ w .run .ensures .0 in
-    let p = subst RunPlaced (sym e) (run-placed _ _ _) in
+    let p = subst RunPlaced (sym e) (run-placed _ _ _ _) in
     let g = q .q3 .given .0 in
     let low : g .0 .pc < 65536 = omega (arith, c .before .known-told3 .given) in
     let small : g .1 .1 .0 .place < 65536 = omega (arith, p .2, low) in

@@ -6,7 +6,7 @@ use borrow.Author.Needs.{needs}
 use mathlib.Core.Path.{_≡_, refl, sym, ap, _∙_}
 use native.Mathlib.Omega.{arith}
 use lib.ListN.{length}
-use Prim.Native.Nat.{_<_, _%_}
+use Prim.Native.Nat.{_%_}
 use Rattle.registers.specs.Registers.{withLowest}
 use Rattle.registers.specs.declared.Registers.{Registers}
 use Rattle.opcodes.proofs.Says.{in-tables}
@@ -20,11 +20,11 @@ use Rattle.stepper.proofs.until.run_until.Statement.{statement}
 use Rattle.stepper.proofs.until.run_until.Tie as tie
 
 abbrev Inv-loop : tie.InvT-loop
-Inv-loop mem₀ budget last tc ta tm q₀ lowest₀ left₀ mem q lowest left =
-    (length mem ≡ length mem₀) × CameTo last budget q₀ mem₀ left (withLowest q lowest) mem
+Inv-loop mem₀ budget home once tc ta tm q₀ lowest₀ left₀ mem q lowest left =
+    (length mem ≡ length mem₀) × CameTo once home budget q₀ mem₀ left (withLowest q lowest) mem
 
 abbrev μ-loop : tie.MeasureT-loop
-μ-loop mem₀ budget last tc ta tm q₀ lowest₀ left₀ mem q lowest left = left
+μ-loop mem₀ budget home once tc ta tm q₀ lowest₀ left₀ mem q lowest left = left
 
 -- from a point of the loop back to the call; to the turn's registers; to the place that was found; past the budget's
 -- test to that of the number; and to the instruction that was executed
@@ -52,7 +52,7 @@ whole c = c .loop .inv .0 ∙ called c .pre
 -- the invariant, of the turn's registers
 came : (c : tie.After-with-lowest Inv-loop μ-loop)
     → let l = c .before .loop in let z = called (c .before) .args in
-    CameTo (z .last) (z .budget) (z .r) (z .mem .now) (l .left) (c .with-lowest .result) (l .mem)
+    CameTo (z .once) (z .home) (z .budget) (z .r) (z .mem .now) (l .left) (c .with-lowest .result) (l .mem)
 came c = rw (c .with-lowest .ensures) (c .before .loop .inv .1)
 
 here : (c : tie.After-place Inv-loop μ-loop)
@@ -82,19 +82,17 @@ stepped c =
     (x .before .before .with-pc .ensures) (x .execute .ensures)
     (ap (λ (r : Registers). r .lowest) (turn (placed w) .with-lowest .ensures)) (c .smaller .ensures)
 
-pc-word : (c : tie.After-execute Inv-loop μ-loop) → c .execute .result .pc < 65536
-pc-word c = omega arith
-
 loop-holds : tie.Need-loop-holds Inv-loop μ-loop
 loop-holds c =
-    let z = c .before .before .before .before .args in (refl, begun (z .last) (z .budget) (z .r) (z .mem .now))
+    let z = c .before .before .before .before .args in
+    (refl, begun (z .once) (z .home) (z .budget) (z .r) (z .mem .now))
 
 find-requires : tie.Need-find-requires Inv-loop μ-loop
 find-requires c κs =
     (whole (c .before .before .before), c .before .before .before .before .before .before .costs .ensures)
 
-sub-t24 : tie.Need-sub-t24 Inv-loop μ-loop
-sub-t24 c = came (c .before .before .before .before .before) .within
+sub-t25 : tie.Need-sub-t25 Inv-loop μ-loop
+sub-t25 c = came (c .before .before .before .before .before) .within
 
 same-length : tie.Need-same-length Inv-loop μ-loop
 same-length c = c .before .before .before .before .before .before .loop .inv .0
@@ -111,8 +109,8 @@ number-at-requires c κs =
     let p = c .before .before in
     (in-tables _ _ (here p .found), turn p .before .before .before .actions .ensures)
 
-sub-t28 : tie.Need-sub-t28 Inv-loop μ-loop
-sub-t28 c = came (turn (placed (c .before))) .within
+sub-t29 : tie.Need-sub-t29 Inv-loop μ-loop
+sub-t29 c = came (turn (placed (c .before))) .within
 
 same-length-2 : tie.Need-same-length-2 Inv-loop μ-loop
 same-length-2 c = turn (placed (c .before)) .before .loop .inv .0
@@ -124,8 +122,8 @@ returns-2 c =
     told (stopped (came (turn (placed w))) (waiting (here (placed w)) (n .result) (n .ensures) (w .waits .ensures)
     (c .if1 .taken)))
 
-sub-t31 : tie.Need-sub-t31 Inv-loop μ-loop
-sub-t31 c = came (turn (placed (c .before .before))) .within
+sub-t32 : tie.Need-sub-t32 Inv-loop μ-loop
+sub-t32 c = came (turn (placed (c .before .before))) .within
 
 same-length-3 : tie.Need-same-length-3 Inv-loop μ-loop
 same-length-3 c = turn (placed (c .before .before)) .before .loop .inv .0
@@ -159,8 +157,8 @@ execute-requires c κs =
       ),
     )
 
-sub-t43 : tie.Need-sub-t43 Inv-loop μ-loop
-sub-t43 c =
+sub-t45 : tie.Need-sub-t45 Inv-loop μ-loop
+sub-t45 c =
     let i = came (turn (placed (waited (ran (c .before .before .before))))) in omega (arith, i .within)
 
 same-length-4 : tie.Need-same-length-4 Inv-loop μ-loop
@@ -187,7 +185,7 @@ loop-again c =
     let x = ran s in
     let t = turn (placed (waited x)) in (
       x .execute .kept .1 .1 .1 .1 .0 ∙ t .before .loop .inv .0,
-      again (came t) (stepped s) (passed x .if2 .left) (pc-word x) (c .if3 .left),
+      again (came t) (stepped s) (passed x .if2 .left) (c .if3 .left),
     )
 
 pub run-until-spec : {M : Type 1} → statement M
@@ -203,16 +201,16 @@ run-until-spec =
     (search needs)
     find-requires
     (search needs)
-    sub-t24
+    sub-t25
     same-length
     returns
     (search needs)
     number-at-requires
     (search needs)
-    sub-t28
+    sub-t29
     same-length-2
     returns-2
-    sub-t31
+    sub-t32
     same-length-3
     returns-3
     mode-number-at-requires
@@ -223,7 +221,7 @@ run-until-spec =
     execute-requires
     (search needs)
     (search needs)
-    sub-t43
+    sub-t45
     same-length-4
     returns-4
     loop-less

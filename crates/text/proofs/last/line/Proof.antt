@@ -10,12 +10,29 @@ use Rattle.text.proofs.last.line.Tie as tie
 returns : tie.Need-returns
 unfolding totalsText
 returns c =
-    let l = c .before .before .with-word .ensures in
-    let s = c .before .before .before .before .with-pair2 .ensures in
-    let a = c .before .before .before .before .before .before .before .before .with-pair .ensures in
-    let e = c .before .before .before .before .before .before .before .before .before .empty .ensures in (
-      simp (c .with-text .ensures .0, l .0, s .0, a .0, e .0, append-assoc),
-      omega (arith, c .with-text .ensures .1, l .1, s .1, a .1, e .1),
+    let h = c .before .before in
+    let l = h .before .before in
+    let s = l .before .before in
+    let a = s .before .before .before .before in
+    let e = a .before in (
+      simp (
+        c .with-text .ensures .0,
+        h .with-word2 .ensures .0,
+        l .with-word .ensures .0,
+        s .with-pair2 .ensures .0,
+        a .with-pair .ensures .0,
+        e .empty .ensures .0,
+        append-assoc,
+      ),
+      omega (
+        arith,
+        c .with-text .ensures .1,
+        h .with-word2 .ensures .1,
+        l .with-word .ensures .1,
+        s .with-pair2 .ensures .1,
+        a .with-pair .ensures .1,
+        e .empty .ensures .1,
+      ),
     )
 
 pub line-spec : {M : Type 1} → statement M
@@ -26,6 +43,8 @@ line-spec =
     (λ c κs. search needs)
     (λ c. search needs)
     (λ c. search needs)
+    (λ c. search needs)
+    (λ c κs. search needs)
     (λ c. search needs)
     (λ c κs. search needs)
     (λ c. search needs)

@@ -3,7 +3,7 @@
 -- Assumes nothing.
 use borrow.Author.Needs.{needs}
 use mathlib.Core.Path.{_≡_, refl}
-use Prim.Native.Nat.{_-_, _≤_}
+use Prim.Native.Nat.{_-_, _≤_, _<_}
 use native.Mathlib.Omega.{arith}
 use Rattle.commands.specs.Rows.{headerLength}
 use Rattle.commands.specs.Every.{none}
@@ -31,7 +31,7 @@ loop-again c =
     let l = at-loop .loop in
     let command = c .before .header-command .ensures in
     let h = at-loop .before .before .args .h in
-    let early = c .before .before .loop-test .taken in (
+    let early : l .stage < headerLength = omega arith in (
       rw (c .then .ensures) (sound-then _ _ (l .inv .0)),
       rw (then-more h (l .stage) early, ← l .inv .1, ← command .0) (c .then .ensures),
       fit-more h (l .stage) early (l .inv .2) (rw (← command .0) (command .1)),
@@ -54,7 +54,7 @@ header-checked-spec =
     μ-loop
     (λ c κs. search needs)
     loop-holds
-    (λ c κs. c .loop-test .taken)
+    (λ c κs. omega arith)
     (λ c κs. c .before .before .loop .inv .0)
     (λ c. omega arith)
     (λ c. omega arith)

@@ -3,7 +3,7 @@
 -- Assumes nothing.
 use borrow.Author.Needs.{needs}
 use mathlib.Core.Path.{_≡_, refl}
-use Prim.Native.Nat.{_-_, _≤_}
+use Prim.Native.Nat.{_-_, _≤_, _<_}
 use native.Mathlib.Omega.{arith}
 use lib.ListN.{length}
 use Rattle.commands.specs.Rows.{headerLength}
@@ -31,7 +31,7 @@ put-command-requires c κs =
     let s = at-loop .before .before in
     rw (c .before .header-command .ensures .0) (omega (
       arith,
-      header-room (s .args .h) (l .stage) (c .before .before .loop-test .taken),
+      header-room (s .args .h) (l .stage) (omega arith),
       l .inv .0 .end,
       l .inv .2,
     ))
@@ -42,7 +42,7 @@ loop-again c =
     let at-loop = command .before .before in
     let l = at-loop .loop in
     let s = at-loop .before .before in
-    let early = command .before .loop-test .taken in
+    let early : l .stage < headerLength = omega arith in
     let room = header-room (s .args .h) (l .stage) early in
     let put = rw (command .header-command .ensures .0) at (c .before .before .put-command .ensures) in
     let p =
@@ -68,7 +68,7 @@ put-header-spec =
     Inv-loop
     μ-loop
     loop-holds
-    (λ c κs. c .loop-test .taken)
+    (λ c κs. omega arith)
     put-command-requires
     (λ c. omega arith)
     (λ c. omega arith)

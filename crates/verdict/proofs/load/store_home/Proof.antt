@@ -8,4 +8,6 @@ returns : tie.Need-returns
 returns c = (cc, search needs)
 
 pub store-home-spec : {M : Type 1} → statement M
-store-home-spec = tie.close (tie.spec (search needs) (search needs) (search needs) (search needs) returns)
+store-home-spec =
+    tie.close
+    (tie.spec (search needs) (search needs) (search needs) (search needs) (search needs) (search needs) returns)
