@@ -32,8 +32,8 @@ extern "C" {
  * 10000 * major + 100 * minor + patch. docs/CHANGELOG.md says what each version changes. Major rises where a caller
  * has to change something, minor where something is added.
  */
-#define JUGROND_VERSION "3.0.0"
-#define JUGROND_VERSION_NUMBER 30000
+#define JUGROND_VERSION "3.0.1"
+#define JUGROND_VERSION_NUMBER 30001
 
 #define JUGROND_REGISTER_BYTES 13
 #define JUGROND_MEMORY_BYTES 65536
@@ -73,7 +73,7 @@ extern "C" {
  * thread's own data, the frames above the call and a signal's, in whole pages of 4 KiB. The tests make every call in
  * threads of exactly these sizes.
  */
-#define JUGROND_HOST_STACK_BYTES 561152
+#define JUGROND_HOST_STACK_BYTES 233472
 #define JUGROND_HOST_STACK_TICK_BYTES 32768
 
 /*

@@ -27,6 +27,22 @@ put_in() { # FILE OFFSET BYTES, in octal: what stood there comes after them
     { head -c "$2" "$1"; printf "$3"; tail -c +$(($2 + 1)) "$1"; } >"$1.longer" && mv "$1.longer" "$1"
 }
 
+# A name at once after each mark of a ticket that has neither home nor names, the last mark first: what follows a name
+# stands 11 bytes later.
+put_names() { # FILE
+    end=$(($(wc -c <"$1") - 1))
+    while [ "$end" -gt 22 ]; do
+        {
+            head -c "$end" "$1"
+            printf '\006'
+            tail -c +$((end - 9)) "$1" | head -c 2 # the mark's address
+            printf 'A NAME ~'
+            tail -c +$((end + 1)) "$1"
+        } >"$1.longer" && mv "$1.longer" "$1"
+        end=$((end - 11))
+    done
+}
+
 # Whether a command can be had; Debian's package with it is installed where it is missing.
 had() { # COMMAND PACKAGE
     command -v "$1" >/dev/null && return

@@ -126,7 +126,7 @@ FAULTS = [
      RULES, 'pub code-start : 1 ≤', 'pub code-start : 0 ≤'),
     ('a weakened function of a proposition', 'demand-3 (rules/proofs/Demand.antt)', OTHER,
      'crates/rules/specs/InUse.antt', 'calls ws used = addresses ws ∷ used', 'calls ws used = [] ∷ used'),
-    ('another meaning behind a word', 'same-bytes (ticket/proofs/WrittenRead.antt)', OTHER,
+    ('another meaning behind a word', 'same-bytes (ticket/proofs/Names.antt)', OTHER,
      'crates/ticket/specs/RoundTrip.antt', 'use Prim.Native.Nat.{ℕ, _≤_}', 'use Prim.Native.Nat.{ℕ, _<_ as _≤_}'),
     ('a weakened function of laws alone', RUN_SUMS, OTHER,
      'crates/stepper/specs/Answer.antt', 'cyclesSpent (spent r k) = k .0', 'cyclesSpent (spent r k) = 0'),

@@ -1,14 +1,16 @@
 /*
  * The library's verdict and the second one, bench/peer.c, must agree: on each place of the opcode maps with claims
  * around the least that are accepted, and on routines made up by chance, some of them then changed; all are the same in
- * every run. Each outcome from 0 to 20, and 29, must occur, and acceptances with a home that is not $0000. An argument
- * gives another number of made-up routines.
+ * every run. Each outcome from 0 to 20, and 29, must occur, and acceptances with a home that is not $0000. What is
+ * accepted must be accepted with a name at each mark too. An argument gives another number of made-up routines.
  * Prints a line for each difference, how often each outcome occurred, and last the count; the exit status tells.
  */
 #include "jugrond.h"
 #include "made.h"
+#include "names.h"
 #include "peer.h"
 
+#include <stdbool.h>
 #include <stdio.h>
 #include <stdlib.h>
 #include <string.h>
@@ -20,26 +22,41 @@ enum { OUTCOME_COUNT = sizeof OUTCOMES / sizeof OUTCOMES[0] };
 static int passed, failed;
 static int occurred[30], with_home; /* by outcome; and acceptances with a home that is not $0000 */
 
-static void compare(const uint8_t *ticket, size_t length, const struct judged *r)
+static bool agrees(const uint8_t *ticket, size_t length, const struct judged *r, const struct answer *peers)
 {
     struct answer ours = answer_of(jugrond_verdict, ticket, length, r->image, r->length);
-    struct answer peers = answer_of(peer_verdict, ticket, length, r->image, r->length);
 
-    occurred[peers.outcome]++;
-    with_home += peers.outcome == 0 && peers.home != 0;
-    if (same(&ours, &peers)) {
-        passed++;
-        return;
-    }
-    failed++;
-    if (failed > 10)
-        return;
+    if (same(&ours, peers))
+        return true;
+    if (failed >= 10)
+        return false;
     print_answer("DIFFERENCE, the library", &ours);
-    print_answer("              the peer", &peers);
+    print_answer("              the peer", peers);
     for (size_t i = 0; i < length && i < 400; i++)
         printf("%02X%s", ticket[i], i + 1 < length ? "" : "\n");
     for (size_t i = 0; i < r->length && i < 200; i++)
         printf("%02X%s", r->image[i], i + 1 < r->length ? "" : "\n");
+    return false;
+}
+
+/* What is accepted has the same answer with a name at each mark. */
+static bool agrees_with_names(const uint8_t *ticket, size_t length, const struct judged *r, const struct answer *peers)
+{
+    static uint8_t named[MOST_TICKET_BYTES + (MOST_MARKS + 2) * NAME_BYTES];
+
+    return peers->outcome != 0 || agrees(named, with_names(ticket, length, named), r, peers);
+}
+
+static void compare(const uint8_t *ticket, size_t length, const struct judged *r)
+{
+    struct answer peers = answer_of(peer_verdict, ticket, length, r->image, r->length);
+
+    occurred[peers.outcome]++;
+    with_home += peers.outcome == 0 && peers.home != 0;
+    if (agrees(ticket, length, r, &peers) && agrees_with_names(ticket, length, r, &peers))
+        passed++;
+    else
+        failed++;
 }
 
 static void compare_routine(const struct judged *r)

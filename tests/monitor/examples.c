@@ -32,16 +32,29 @@ static size_t read_file(const char *name, uint8_t *bytes, size_t room)
     return length;
 }
 
+static void certify(const char *image_name, const uint8_t *ticket, size_t length, uint8_t *to)
+{
+    uint32_t place;
+
+    if (jugrond_certify(ticket, length, image, image_length, to, JUGROND_SLOT_BYTES, &place) != JUGROND_ACCEPTED) {
+        printf("DIFFERENCE %s is not accepted\n", image_name);
+        exit(1);
+    }
+}
+
+/* As it is, and with a name at each mark: both fill the slot with the same bytes. */
 static void judge(const char *image_name, const char *ticket_name)
 {
-    static uint8_t ticket[65536];
+    static uint8_t ticket[4096], named[2 * sizeof ticket];
     size_t ticket_length = read_file(ticket_name, ticket, sizeof ticket);
-    uint32_t place;
+    uint8_t slot_named[JUGROND_SLOT_BYTES];
 
     image_length = read_file(image_name, image, sizeof image);
     dearest = 0;
-    if (jugrond_certify(ticket, ticket_length, image, image_length, slot, sizeof slot, &place) != JUGROND_ACCEPTED) {
-        printf("DIFFERENCE %s is not accepted\n", image_name);
+    certify(image_name, ticket, ticket_length, slot);
+    certify(image_name, named, with_names(ticket, ticket_length, named), slot_named);
+    if (memcmp(slot, slot_named, sizeof slot) != 0) {
+        printf("DIFFERENCE %s with names is certified otherwise\n", image_name);
         exit(1);
     }
     certified = slot_number(slot, JUGROND_SLOT_COST, 4);

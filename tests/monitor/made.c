@@ -1,5 +1,6 @@
 /* See made.h. */
 #include "made.h"
+#include "names.h"
 #include "peer_instructions.h"
 
 #include <stdbool.h>
@@ -284,17 +285,11 @@ void change_routine(struct judged *r)
     }
 }
 
-/* Where a ticket's marks begin. */
-static size_t marks_from(const uint8_t *ticket)
-{
-    return ticket[HEADER_BYTES] == 7 ? HEADER_BYTES + HOME_BYTES : HEADER_BYTES;
-}
-
 /* A home where a command begins or ends: where it belongs, a second one, or out of order. */
 static size_t put_home(uint8_t *ticket, size_t length)
 {
-    size_t marks = (length - marks_from(ticket) - 1) / MARK_BYTES;
-    size_t places[] = {0, 5, 15, HEADER_BYTES, marks_from(ticket), marks_from(ticket) + MARK_BYTES * marks};
+    size_t from = marks_from(ticket, length), marks = (length - from - 1) / MARK_BYTES;
+    size_t places[] = {0, 5, 15, HEADER_BYTES, from, from + MARK_BYTES * marks};
     uint8_t *home = ticket + places[chance(6)];
 
     memmove(home + HOME_BYTES, home, length - (size_t)(home - ticket));
@@ -307,8 +302,8 @@ static size_t put_home(uint8_t *ticket, size_t length)
 /* A name may come to stand behind another. */
 static size_t put_name(uint8_t *ticket, size_t length)
 {
-    size_t marks = (length - marks_from(ticket) - 1) / MARK_BYTES;
-    size_t after = marks_from(ticket) + MARK_BYTES * (1 + chance((uint32_t)marks));
+    size_t from = marks_from(ticket, length), marks = (length - from - 1) / MARK_BYTES;
+    size_t after = from + MARK_BYTES * (1 + chance((uint32_t)marks));
     uint8_t *name = ticket + after;
 
     memmove(name + NAME_BYTES, name, length - after);
@@ -321,6 +316,8 @@ static size_t put_name(uint8_t *ticket, size_t length)
 
 size_t change_ticket(uint8_t *ticket, size_t length)
 {
+    size_t from = marks_from(ticket, length);
+
     switch (chance(6)) {
     case 0:
         ticket[chance((uint32_t)length)] = (uint8_t)chance(256);
@@ -331,8 +328,7 @@ size_t change_ticket(uint8_t *ticket, size_t length)
         ticket[length] = (uint8_t)chance(256);
         return length + 1;
     case 3:
-        ticket[marks_from(ticket) + MARK_BYTES * chance((uint32_t)(length - marks_from(ticket)) / MARK_BYTES)] =
-            (uint8_t)chance(9);
+        ticket[from + MARK_BYTES * chance((uint32_t)(length - from) / MARK_BYTES)] = (uint8_t)chance(9);
         return length;
     case 4:
         return put_home(ticket, length);

@@ -18,6 +18,4 @@ void change_routine(struct judged *r);
    Answers its new length. */
 size_t change_ticket(uint8_t *ticket, size_t length);
 
-#define NAME_BYTES 11
-
 #endif

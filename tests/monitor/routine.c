@@ -1,8 +1,8 @@
 /*
- * Judges and starts routine P of the specification, whole, with homes and damaged in each way, through jugrond_verdict
- * and jugrond_start, and runs what was started. Looks at every byte and number that was lent and at guard bytes around
- * them: what a call does not answer must be as it was lent. Prints a line for each difference and last the count; the
- * exit status tells.
+ * Judges and starts routine P of the specification, whole, with homes and damaged in each way, each without names and
+ * with a name at each mark, through jugrond_verdict and jugrond_start, and runs what was started. Looks at every byte
+ * and number that was lent and at guard bytes around them: what a call does not answer must be as it was lent. Prints a
+ * line for each difference and last the count; the exit status tells.
  */
 #include "jugrond.h"
 
@@ -119,35 +119,35 @@ static void check_start(const struct routine *c, size_t registers_length, size_t
     count();
 }
 
+static void check_routine(const struct routine *c, size_t guard)
+{
+    check_verdict(c, guard);
+    check_start(c, JUGROND_REGISTER_BYTES, JUGROND_MEMORY_BYTES, guard);
+    check_start(c, 0, JUGROND_MEMORY_BYTES, guard);
+    check_start(c, 11, JUGROND_MEMORY_BYTES, guard);
+    check_start(c, 12, JUGROND_MEMORY_BYTES, guard);
+    check_start(c, 14, JUGROND_MEMORY_BYTES, guard);
+    check_start(c, JUGROND_REGISTER_BYTES, 0, guard);
+    check_start(c, JUGROND_REGISTER_BYTES, 65535, guard);
+    check_start(c, JUGROND_REGISTER_BYTES, 65537, guard);
+}
+
 static void check_all(size_t guard)
 {
-    for (size_t i = 0; i < routine_count; i++) {
-        const struct routine *c = &routines[i];
-
-        check_verdict(c, guard);
-        check_start(c, JUGROND_REGISTER_BYTES, JUGROND_MEMORY_BYTES, guard);
-        check_start(c, 0, JUGROND_MEMORY_BYTES, guard);
-        check_start(c, 11, JUGROND_MEMORY_BYTES, guard);
-        check_start(c, 12, JUGROND_MEMORY_BYTES, guard);
-        check_start(c, 14, JUGROND_MEMORY_BYTES, guard);
-        check_start(c, JUGROND_REGISTER_BYTES, 0, guard);
-        check_start(c, JUGROND_REGISTER_BYTES, 65535, guard);
-        check_start(c, JUGROND_REGISTER_BYTES, 65537, guard);
-    }
+    for_each_routine(check_routine, guard);
 }
 
 /* P as it is, or with a home: the same in all else. */
-static const struct routine *p_with(const uint8_t *home)
+static struct routine p_with(const uint8_t *home)
 {
-    static struct routine r;
+    struct routine r = routines[0];
 
-    r = routines[0];
     if (home != NULL) {
         r.ticket_length += HOME_BYTES;
         r.home[0] = 7;
         memcpy(r.home + 1, home, 2);
     }
-    return &r;
+    return r;
 }
 
 /* The two bytes of home: at T - 1, $01F3, the high one, at T the low one; zeros where the ticket says none. */
@@ -158,11 +158,11 @@ static void expect_home_at_t(const char *when, const uint8_t *used, const uint8_
 }
 
 /* Verdict, start and run of P in turn, with a home or none. The lowest SP is that of the call within P, $01EF. */
-static void check_way(const uint8_t *says, uint32_t budget, uint32_t outcome, uint32_t spent, const char *sp_pc)
+static void check_way_of(const struct routine *c, const uint8_t *says, uint32_t budget, uint32_t outcome,
+                         uint32_t spent, const char *sp_pc)
 {
     static uint8_t used[JUGROND_MEMORY_BYTES];
     uint8_t registers[JUGROND_REGISTER_BYTES], expected[JUGROND_REGISTER_BYTES];
-    const struct routine *c = p_with(says);
     uint32_t cost = 0, cycles = 0, place = 0;
     uint16_t entry = 0, judged = 0x5555, home = 0xaaaa, stack = 0, pc = 0;
 
@@ -194,6 +194,15 @@ static void check_way(const uint8_t *says, uint32_t budget, uint32_t outcome, ui
     expect_number("way", "byte stored", used[0x0040], 7);
     expect_home_at_t("home in memory after the run", used, says);
     count();
+}
+
+/* Without names and with them. */
+static void check_way(const uint8_t *says, uint32_t budget, uint32_t outcome, uint32_t spent, const char *sp_pc)
+{
+    struct routine c = p_with(says), n = named(&c);
+
+    check_way_of(&c, says, budget, outcome, spent, sp_pc);
+    check_way_of(&n, says, budget, outcome, spent, sp_pc);
 }
 
 /* P comes home to where its ticket says, with SP at T, and with a cycle less it stops where P without home does. */

@@ -85,14 +85,50 @@ static void apply(struct edit e, uint8_t *bytes)
         bytes[e.at] = e.byte;
 }
 
-void make_ticket(const struct routine *r, uint8_t bytes[P_MOST_TICKET_BYTES])
+/* Answers how many bytes, with the one past the end. */
+static size_t make_unnamed(const struct routine *r, uint8_t bytes[P_MOST_TICKET_BYTES])
 {
     memcpy(bytes, p_ticket, sizeof p_ticket);
     for (size_t i = 0; i < sizeof r->ticket / sizeof r->ticket[0]; i++)
         apply(r->ticket[i], bytes);
-    if (r->home[0] != 0) {
-        memmove(bytes + AFTER_ENTRY + HOME_BYTES, bytes + AFTER_ENTRY, sizeof p_ticket - AFTER_ENTRY);
-        memcpy(bytes + AFTER_ENTRY, r->home, HOME_BYTES);
+    if (r->home[0] == 0)
+        return sizeof p_ticket;
+    memmove(bytes + AFTER_ENTRY + HOME_BYTES, bytes + AFTER_ENTRY, sizeof p_ticket - AFTER_ENTRY);
+    memcpy(bytes + AFTER_ENTRY, r->home, HOME_BYTES);
+    return sizeof p_ticket + HOME_BYTES;
+}
+
+void make_ticket(const struct routine *r, uint8_t bytes[P_MOST_TICKET_BYTES])
+{
+    uint8_t unnamed[P_MOST_TICKET_BYTES];
+    size_t length = make_unnamed(r, unnamed);
+
+    if (r->named)
+        with_names(unnamed, length, bytes);
+    else
+        memcpy(bytes, unnamed, length);
+}
+
+struct routine named(const struct routine *r)
+{
+    uint8_t unnamed[P_MOST_TICKET_BYTES], bytes[P_MOST_TICKET_BYTES];
+    struct routine n = *r;
+
+    make_unnamed(r, unnamed);
+    n.named = true;
+    n.ticket_length = with_names(unnamed, r->ticket_length, bytes);
+    n.place = place_with_names(unnamed, r->ticket_length, r->outcome, r->place);
+    return n;
+}
+
+void for_each_routine(void (*test)(const struct routine *, size_t), size_t guard)
+{
+    for (size_t i = 0; i < routine_count; i++) {
+        struct routine n = named(&routines[i]);
+
+        test(&routines[i], guard);
+        if (n.ticket_length != routines[i].ticket_length)
+            test(&n, guard);
     }
 }
 

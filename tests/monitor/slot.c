@@ -1,9 +1,9 @@
 /*
- * Judges routine P of the specification, whole, with homes and damaged in each way, into a slot, starts it and others
- * from slots, and runs what was started: jugrond_certify and jugrond_start_certified. Slots of any bytes are started
- * too; what must stand in memory and registers then is computed here, from the header's words. Looks at every byte and
- * number that was lent and at guard bytes around them. Prints a line for each difference and for each group, and last
- * the groups' count; the exit status tells.
+ * Judges routine P of the specification, whole, with homes and damaged in each way, each without names and with a name
+ * at each mark, into a slot, starts it and others from slots, and runs what was started: jugrond_certify and
+ * jugrond_start_certified. Slots of any bytes are started too; what must stand in memory and registers then is computed
+ * here, from the header's words. Looks at every byte and number that was lent and at guard bytes around them. Prints a
+ * line for each difference and for each group, and last the groups' count; the exit status tells.
  */
 #include "jugrond.h"
 
@@ -70,11 +70,15 @@ static void check_certify(const struct routine *c, size_t slot_length, size_t gu
 static const size_t slot_lengths[] = {26, 0, 24, 25, 27};
 #define SLOT_LENGTHS (sizeof slot_lengths / sizeof slot_lengths[0])
 
+static void check_slot_filled(const struct routine *c, size_t guard)
+{
+    for (size_t j = 0; j < SLOT_LENGTHS; j++)
+        check_certify(c, slot_lengths[j], guard);
+}
+
 static void check_slots_filled(size_t guard)
 {
-    for (size_t i = 0; i < routine_count; i++)
-        for (size_t j = 0; j < SLOT_LENGTHS; j++)
-            check_certify(&routines[i], slot_lengths[j], guard);
+    for_each_routine(check_slot_filled, guard);
 }
 
 /* What is lent to a start, and how much of it. */
@@ -395,6 +399,23 @@ static void check_both(const char *name, const uint8_t *slot, const struct file 
         expect_number(name, "home within the certified cycles", outcome, JUGROND_HOME);
 }
 
+/* With a name at each mark the ticket fills the slot with the same bytes, and starts the same routine. */
+static void check_named(const char *name, const uint8_t *slot, const struct file *paper, const struct file *code)
+{
+    static struct file named;
+    uint8_t filled[JUGROND_SLOT_BYTES] = {0};
+    uint32_t place;
+
+    named.length = with_names(paper->bytes, paper->length, named.bytes);
+    expect_number(name, "names put in", named.length > paper->length, 1);
+    expect_number(name, "certify with names",
+                  jugrond_certify(named.bytes, named.length, code->bytes, code->length, filled, sizeof filled, &place),
+                  JUGROND_ACCEPTED);
+    expect_number(name, "slot with names", memcmp(filled, slot, sizeof filled) == 0, 1);
+    check_layout(name, slot, &named, code);
+    check_both(name, slot, &named, code, UINT32_MAX);
+}
+
 /* With every budget up to some above the examples' certified cycles, of which the most are 99, and with the largest. */
 static void check_budgets(const char *name, const struct file *paper, const struct file *code)
 {
@@ -408,6 +429,7 @@ static void check_budgets(const char *name, const struct file *paper, const stru
     for (uint32_t budget = 0; budget <= 110; budget++)
         check_both(name, slot, paper, code, budget);
     check_both(name, slot, paper, code, UINT32_MAX);
+    check_named(name, slot, paper, code);
 }
 
 /* As it is, and with a home in its ticket. */

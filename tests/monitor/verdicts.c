@@ -3,10 +3,14 @@
  * known place, what is let in beside it, which of two causes is answered, windows at the ends of memory, homes, and the
  * largest ticket. What is expected stands beside each routine, by hand from the specification: the number of a cause
  * and its place, or entry, cost and stack, with the home that its ticket says, $0000 where it says none; the other
- * numbers stay as they are lent.
+ * numbers stay as they are lent. Each is judged with a name at each mark too: the same is expected, but that an offset
+ * counts the names before it.
  */
 #include "verdicts.h"
 
+#include "names.h"
+
+#include <stdbool.h>
 #include <stdio.h>
 #include <string.h>
 
@@ -14,19 +18,36 @@ static verdict_function *verdict;
 static const char *shown;
 static struct tally tally;
 
-static void judge(const char *name, const struct judged *r, const uint8_t *ticket, size_t length, struct answer wanted)
+static bool right(const char *name, const char *how, const struct judged *r, const uint8_t *bytes, size_t length,
+                  struct answer wanted)
 {
-    struct answer got = answer_of(verdict, ticket, length, r->image, r->length);
+    struct answer got = answer_of(verdict, bytes, length, r->image, r->length);
 
-    if (same(&got, &wanted)) {
-        tally.passed++;
-    } else {
-        tally.failed++;
-        if (shown != NULL) {
-            printf("DIFFERENCE by %s, ", shown);
-            print_answer(name, &got);
-        }
+    if (same(&got, &wanted))
+        return true;
+    if (shown != NULL) {
+        printf("DIFFERENCE by %s%s, ", shown, how);
+        print_answer(name, &got);
     }
+    return false;
+}
+
+/* With room for a byte after the end, or for two commands that are put in. */
+static uint8_t ticket[MOST_TICKET_BYTES + 2 * MARK_BYTES];
+static uint8_t named_ticket[sizeof ticket + MOST_MARKS * NAME_BYTES];
+
+/* The ticket as it is, and with a name at each mark. */
+static void judge(const char *name, const struct judged *r, const uint8_t *bytes, size_t length, struct answer wanted)
+{
+    size_t named_length = with_names(bytes, length, named_ticket);
+    struct answer of_named = wanted;
+
+    of_named.place = place_with_names(bytes, length, wanted.outcome, wanted.place);
+    if (right(name, "", r, bytes, length, wanted) &&
+        right(name, " with names", r, named_ticket, named_length, of_named))
+        tally.passed++;
+    else
+        tally.failed++;
 }
 
 static struct answer acceptance(uint16_t entry, uint16_t home, uint32_t cost, uint16_t stack)
@@ -43,9 +64,6 @@ static struct answer refusal(uint32_t number, uint32_t place)
     a.place = place;
     return a;
 }
-
-/* With room for a byte after the end, or for two commands that are put in. */
-static uint8_t ticket[MOST_TICKET_BYTES + 2 * MARK_BYTES];
 
 static void accepted(const char *name, const struct judged *r, uint16_t entry, uint32_t cost, uint16_t stack)
 {
@@ -246,6 +264,37 @@ static void names(void)
     named("a name with $1F", 1, 0x8000, 0x1f, refusal(4, 33));
     named("a name with $7F", 1, 0x8000, 0x7f, refusal(4, 33));
     named("a name of another address with $7F", 1, 0x8001, 0x7f, refusal(3, 33));
+}
+
+/* P's ticket with a name at each mark and another byte, so many bytes of it. Its marks are from 22 on, 22 bytes each,
+ * each name is 11 bytes after its mark, the end at 154. */
+static void refused_named(const char *name, size_t at, uint8_t byte, size_t length, uint32_t number, uint32_t place)
+{
+    static uint8_t bytes[HEADER_BYTES + 6 * (MARK_BYTES + NAME_BYTES) + 2];
+    struct judged *r = p();
+
+    with_names(ticket, ticket_of(r, ticket), bytes);
+    bytes[at] = byte;
+    judge(name, r, bytes, length, refusal(number, place));
+}
+
+static void after_names(void)
+{
+    refused_named("names, an unknown command for the second mark", 44, 0xff, 155, 1, 44);
+    refused_named("names, an unknown command for the end", 154, 0xff, 155, 1, 154);
+    refused_named("names, no end", 154, 0x00, 154, 2, 154);
+    refused_named("names, the last without its last byte", 154, 0x00, 153, 2, 143);
+    refused_named("names, the last mark cut", 154, 0x00, 142, 2, 132);
+    refused_named("names, a code window for the last mark", 132, 0x01, 155, 3, 132);
+    refused_named("names, home for the second mark", 44, 0x07, 155, 3, 44);
+    refused_named("names, the second mark's address the first's", 46, 0x00, 155, 3, 44);
+    refused_named("names, the third of another address", 79, 0x05, 155, 3, 77);
+    refused_named("names, a second one for the last mark", 132, 0x06, 155, 3, 132);
+    refused_named("names, the last with $7F", 150, 0x7f, 155, 4, 143);
+    refused_named("names, the second with $1F", 62, 0x1f, 155, 4, 55);
+    refused_named("names, the last mark's cost out of range", 135, 0xff, 155, 4, 132);
+    refused_named("names, the last mark past the code", 134, 0x0b, 155, 7, 132);
+    refused_named("names, a byte after the end", 155, 0x00, 156, 8, 155);
 }
 
 /* P's ticket has its windows at 0, 5 and 10, its entry at 15, its marks from 22 on, 11 bytes each, and its end at 88.
@@ -852,7 +901,8 @@ static void order_of_the_whole(void)
     refused("19 before 20", p_under(1, 4, 0x8000, 25), 19, 0x8000);
 }
 
-/* 4,095 NOPs and an RTS, each marked; the code window may end at $FFFF. With home it is the longest without names. */
+/* 4,095 NOPs and an RTS, each marked; the code window may end at $FFFF. With home, and judged with names, the longest
+ * ticket. */
 static void largest(void)
 {
     static char nops[4096];
@@ -885,6 +935,7 @@ struct tally judge_routines(verdict_function *by, const char *name)
     tally = (struct tally){0, 0};
     further();
     names();
+    after_names();
     reading();
     images();
     forbidden();

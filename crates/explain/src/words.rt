@@ -54,10 +54,10 @@ pub fn to_do(number: u8) {
             b"add what is missing, the end ($00) or the command's last bytes; see whether the file was cut",
         ),
         3 => text(
-            b"put $01 to $04 first, once each and in this order; home ($07), where the ticket says it, once and at once after the entry; then the marks in rising address, none twice, each with at most one name, at once after it and with its address; then the end",
+            b"put $01 to $04 first, once each and in this order; home ($07), where the ticket says it, once and at once after the entry; then the marks in rising address, none twice; then the end; a name ($06), which only old tickets have, once and at once after its mark, with its address, or take it out",
         ),
         4 => text(
-            b"keep to the ranges: length of code 1 to 4,096, of data 0 to 8,192, of stack 2 to 1,024; limit 1 to 2,000,000; cost up to 2,000,000; depth and need up to 1,022; each byte of a name $20 to $7E",
+            b"keep to the ranges: length of code 1 to 4,096, of data 0 to 8,192, of stack 2 to 1,024; limit 1 to 2,000,000; cost up to 2,000,000; depth and need up to 1,022; each byte of an old ticket's name ($06) $20 to $7E, or take the name out",
         ),
         5 => text(
             b"keep start + length at or below 65,536, and start code and stack at $0001 or above",

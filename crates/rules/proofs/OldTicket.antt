@@ -10,7 +10,7 @@ use Rattle.commands.specs.declared.header.Header.{Header}
 use Rattle.commands.specs.Header.{requiredCommands}
 use Rattle.ticket.specs.Fields.{Fields, read, refused}
 use Rattle.ticket.specs.Read.{readOf}
-use Rattle.ticket.specs.Spells.{carriesHome}
+use Rattle.ticket.specs.Spells.{requiredSize, carriesHome}
 use Rattle.ticket.specs.RoundTrip.{AllFit}
 use Rattle.ticket.specs.OldTicket.{begun, begunWithHome, movedPlace}
 use Rattle.ticket.proofs.OldTicket.{read-alike}
@@ -23,7 +23,7 @@ pub judged-alike : (h : Header) (rest : List ℕ) → AllFit (requiredCommands h
     → ((f : Fields) → readOf (begun h rest) ≡ read f → verdictOf (begunWithHome h rest) image
     ≡ verdictOf (begun h rest) image)
     × ((r : Refusal) → readOf (begun h rest) ≡ refused r → verdictOf (begunWithHome h rest) image
-    ≡ Refuse (movedPlace r))
+    ≡ Refuse (movedPlace requiredSize 3 r))
 unfolding verdictOf
 judged-alike h rest fits away image = (
   λ f e. rw (read-alike h rest fits away, e),

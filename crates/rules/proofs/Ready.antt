@@ -25,7 +25,7 @@ use Rattle.rules.specs.Claim.{topOf, Spares}
 use Rattle.rules.proofs.Obeys.{every-some, Stored, Obeys, obeys}
 use Rattle.rules.proofs.SameShape.{same-shape}
 use Rattle.rules.proofs.Memory.{less-is, plus-is, moved-is, length-applied, pushed-holds, word-holds}
-use Rattle.rules.proofs.Marks.{Holding, holding}
+use Rattle.rules.proofs.Marks.{holding}
 use Rattle.rules.proofs.Frames.{Frame, Stacked, owed, pairs, base-top}
 use Rattle.rules.proofs.Placed.{Placed, Filled, placed-spares, code-kept, stack-kept}
 
@@ -82,9 +82,9 @@ module _ {f : Fields} {image : List ℕ} {A : Accepted f image} {r : Registers} 
 
   inside : In (f .header .code) (r .pc)
   inside =
-      holding (MarkRules (f .header)) (f .marks) (A .readable .mark-rules) (r .pc) (R .claim) (R .marked) .1 .inside
+      holding (MarkRules (f .header)) (f .marks) (A .readable .mark-rules) (r .pc) (R .claim) (R .marked) .inside
 
-  rules-here : Holding (RulesAt f image) (r .pc) (R .claim)
+  rules-here : RulesAt f image (record { address = r .pc; claim = R .claim })
   rules-here = holding (RulesAt f image) (f .marks) (A .each) (r .pc) (R .claim) (R .marked)
 
   -- stores of the routine that runs
@@ -236,12 +236,12 @@ module _ {f : Fields} {image : List ℕ} {A : Accepted f image} {r : Registers} 
   -- at a mark the memory's instruction is the image's
   memory-shape : shapeOf (fetched m (r .pc)) (r .pc) ≡ shapeOf (imageFrom (f .header .code) image (r .pc)) (r .pc)
   memory-shape =
-      same-shape (f .header .code) image m (r .pc) (λ e. subst (λ s. RulesBy f (R .claim) s) e (rules-here .1 .rules))
-      (inside .0) (rules-here .1 .within)
+      same-shape (f .header .code) image m (r .pc) (λ e. subst (λ s. RulesBy f (R .claim) s) e (rules-here .rules))
+      (inside .0) (rules-here .within)
       (rules .code-edge) (A .image-length) (R .code)
 
   pub one-step : Stepped A r m used p
   one-step =
       let bytes = imageFrom (f .header .code) image (r .pc) in
-      by-shape (shapeOf bytes (r .pc)) (rules-here .1 .rules)
+      by-shape (shapeOf bytes (r .pc)) (rules-here .rules)
       (subst (λ s. Obeys s r m) memory-shape (obeys r m (R .whole) (omega (arith, small, R .depth))))

@@ -2,31 +2,29 @@
 -- Assumes nothing.
 use Prim.Native.Nat.{ℕ}
 use mathlib.Core.Path.{_≡_}
-use mathlib.Core.Logic.{inl, inr}
 use mathlib.Core.List.{List}
 use Rattle.commands.specs.Number.{AllBytes}
 use Rattle.commands.specs.Progress.{initialProgress}
 use Rattle.ticket.specs.Fields.{Fields, read}
 use Rattle.ticket.specs.Read.{readOf}
-use Rattle.ticket.specs.Spells.{commandsWithoutHome, Spells}
+use Rattle.ticket.specs.Spells.{Spells}
 use Rattle.ticket.specs.RoundTrip.{FitsFields}
 use Rattle.ticket.specs.Rules.{Readable, ReadByTheRules}
-use Rattle.ticket.proofs.Fitting.{fit-without-home}
+use Rattle.ticket.proofs.Fitting.{fit-stated}
 use Rattle.ticket.proofs.Free.{free-admitted}
-use Rattle.ticket.proofs.ReadWritten.{read-written, read-without-home}
+use Rattle.ticket.proofs.ReadWritten.{read-stated}
 use Rattle.ticket.proofs.WrittenRead.{spells-read, fits-read, readable-read}
-use Rattle.ticket.proofs.Readable.{readable-without-home, readable-checked}
+use Rattle.ticket.proofs.Readable.{readable-says}
 
 pub read-rules : (s : List ℕ) (f : Fields) → AllBytes s → readOf s ≡ read f → Spells f s × FitsFields f × Readable f
-read-rules s f a r = (spells-read s f r a, fits-read s f r a, readable-read s f r)
+read-rules s f a r = (spells-read s f r a, fits-read s f r a, readable-read s f r a)
 
 pub rules-read : (s : List ℕ) (f : Fields) → Spells f s → FitsFields f → Readable f → readOf s ≡ read f
-rules-read s f (inl e) fits r = rw (← e, read-written f fits, readable-checked f r .1)
-rules-read s f (inr (z, e)) fits r =
+rules-read s f S fits r =
     rw (
-      ← e,
-      read-without-home f z (fit-without-home f fits),
-      free-admitted initialProgress (commandsWithoutHome f) (readable-without-home f z .1 r),
+      ← S .bytes,
+      read-stated f (S .states) (fit-stated f (S .states) fits),
+      free-admitted initialProgress (S .commands) (readable-says f (S .states) .1 r),
     )
 
 pub by-the-rules : (s : List ℕ) → AllBytes s → ReadByTheRules s

@@ -24,7 +24,7 @@ use Rattle.commands.proofs.Sound.{sound-then}
 use Rattle.ticket.specs.declared.fields.Mark.{Mark}
 use Rattle.ticket.specs.declared.answer.Written.the-variants as Written
 use Rattle.ticket.specs.Fields.{Fields, blankMark, markIndex, listed}
-use Rattle.ticket.specs.Write.{commandsAt, markCommands, commandsOf, encodeAll, bytesOf, allThen}
+use Rattle.ticket.specs.Write.{markCommand, markCommands, commandsOf, encodeAll, bytesOf, allThen}
 use Rattle.ticket.specs.Write.{checkOf, writeOf, outputOf}
 use Rattle.lists.specs.Splice.{spliced}
 use Rattle.ticket.proofs.Stage.{by-admission}
@@ -40,7 +40,7 @@ sound-all a [] s = s
 sound-all a (c ∷ cs) s = sound-all (thenOf a c) cs (sound-then a c s)
 
 pub all-listed : (a : Admitted) (ms : List Mark) (i : ℕ) → allThen a (markCommands (listed ms (i + 1)))
-    ≡ allThen (allThen a (markCommands (listed ms i))) (commandsAt (getD ms (markIndex i) blankMark))
+    ≡ thenOf (allThen a (markCommands (listed ms i))) (markCommand (getD ms (markIndex i) blankMark))
 all-listed a ms i = rw (add-one, commands-snoc, all-append)
 
 pub all-checked : (f : Fields) → checkOf f ≡ thenOf (allThen (allThen (Next initialProgress)
@@ -53,7 +53,7 @@ all-checked f = all-append _ (markCommands (f .marks)) (Command.End ∷ [])
 pub not-next : {r : Refusal} {q : Progress} → Refused r ≡ Next q → ⊥
 not-next e = let z : _≡_ {A = ℕ} 0 1 = cc in omega arith
 
-all-at : (cs : List Command) (p q : Progress) → allThen (Next p) cs ≡ Next q → q .at ≡ p .at + length (encodeAll cs)
+pub all-at : (cs : List Command) (p q : Progress) → allThen (Next p) cs ≡ Next q → q .at ≡ p .at + length (encodeAll cs)
 all-at [] p q e = let same : p .at ≡ q .at = cc in omega arith
 all-at (c ∷ cs) p q e =
     by-admission p c (λ a. allThen a cs ≡ Next q → q .at ≡ p .at + length (encodeAll (c ∷ cs)))

@@ -1,9 +1,8 @@
--- What the commands of a ticket leave, if each is admitted: the ticket's header and marks.
+-- What commands that state some fields leave, if each is admitted: these fields.
 -- Assumes nothing.
 use Prim.Native.Nat.{ℕ}
 use mathlib.Core.Path.{_≡_, refl, sym, ap, _∙_}
 use mathlib.Core.List.{List, [], _∷_, _++_, append-nil, append-assoc}
-use Rattle.commands.specs.declared.command.Claim.{Claim}
 use Rattle.commands.specs.declared.command.HeaderCommand.the-variants.{Home}
 use Rattle.commands.specs.declared.command.Command.{Command}
 use Rattle.commands.specs.declared.command.Command.the-variants as Command
@@ -11,12 +10,11 @@ use Rattle.commands.specs.declared.header.Header.{Header}
 use Rattle.commands.specs.declared.progress.Progress.{Progress}
 use Rattle.commands.specs.Progress.{afterOf}
 use Rattle.commands.specs.Header.{blankHeader, headerWith}
-use Rattle.ticket.specs.declared.fields.Name.{Name}
-use Rattle.ticket.specs.declared.fields.Name.the-variants.{Absent, Text}
 use Rattle.ticket.specs.declared.fields.Mark.{Mark}
-use Rattle.ticket.specs.Fields.{Fields, unnamed, marksWith, inFileOrder}
-use Rattle.ticket.specs.Write.{nameCommands, markCommands, commandsOf}
-use Rattle.ticket.specs.Spells.{commandsWithoutHome}
+use Rattle.ticket.specs.Fields.{Fields, marksWith, inFileOrder}
+use Rattle.ticket.specs.Spells.{StatesMarks, States, stated}
+use Rattle.ticket.specs.Spells.StatesHeader.{whole, homeless}
+use Rattle.ticket.specs.Spells.StatesMarks.{none, unnamed, named}
 
 abbrev pub headerAfter : Header → Command → Header
 headerAfter h (Command.Header c) = headerWith h c
@@ -36,26 +34,15 @@ abbrev pub keptOf : Header → List Mark → List Command → Fields
 keptOf h ms [] = record { header = h; marks = inFileOrder ms }
 keptOf h ms (c ∷ cs) = keptOf (headerAfter h c) (marksWith ms c) cs
 
-kept-name : (h : Header) (ms : List Mark) (a : ℕ) (k : Claim) (n : Name) (cs ds : List Command) →
-    keptOf h (unnamed a k ∷ ms) ((nameCommands a n ++ cs) ++ ds)
-    ≡ keptOf h (record { address = a; claim = k; name = n } ∷ ms) (cs ++ ds)
-kept-name h ms a k Absent cs ds = refl
-kept-name h ms a k (Text t) cs ds = refl
-
-kept-marks : (h : Header) (ks ms : List Mark) → keptOf h ks (markCommands ms ++ (Command.End ∷ []))
-    ≡ record { header = h; marks = inFileOrder ks ++ ms }
-kept-marks h ks [] = rw append-nil
-kept-marks h ks (m ∷ ms) =
-    kept-name h ks (m .address) (m .claim) (m .name) (markCommands ms) (Command.End ∷ [])
-    ∙ (kept-marks h (m ∷ ks) ms ∙ rw append-assoc)
-
-pub kept : (f : Fields) → keptOf blankHeader [] (commandsOf f) ≡ f
-unfolding commandsOf
-kept f = kept-marks (f .header) [] (f .marks)
+kept-marks : {ms : List Mark} {cs : List Command} → StatesMarks ms cs → (h : Header) (ks : List Mark)
+    → keptOf h ks (cs ++ (Command.End ∷ [])) ≡ record { header = h; marks = inFileOrder ks ++ ms }
+kept-marks none h ks = rw append-nil
+kept-marks (unnamed {m} K) h ks = kept-marks K h (m ∷ ks) ∙ rw append-assoc
+kept-marks (named {m} t n K) h ks = kept-marks K h (m ∷ ks) ∙ rw append-assoc
 
 -- a header that no command says home of has home $0000
-pub kept-without-home : (f : Fields) → f .header .home ≡ 0 → keptOf blankHeader [] (commandsWithoutHome f) ≡ f
-unfolding commandsWithoutHome
-kept-without-home f z =
-    kept-marks _ [] (f .marks)
+pub kept : (f : Fields) {cs : List Command} → States f cs → keptOf blankHeader [] cs ≡ f
+kept f (stated whole K) = kept-marks K (f .header) []
+kept f (stated (homeless z) K) =
+    kept-marks K _ []
     ∙ ap (λ (a : ℕ). record { header = headerWith (f .header) (Home a); marks = f .marks }) (sym z)

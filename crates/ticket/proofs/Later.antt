@@ -1,4 +1,4 @@
--- Reading from three bytes later on: the same bytes give the same fields, or the same number three bytes later.
+-- Reading from some bytes later on: the same bytes give the same fields, or the same number so many bytes later.
 -- Assumes nothing.
 use Prim.Native.Nat.{ℕ, zero, suc, _+_, _≤_, _<_}
 use mathlib.Core.Path.{_≡_, refl}
@@ -15,102 +15,96 @@ use Rattle.commands.specs.declared.parse.ParsedCommand.the-variants.{Unknown, C
 use Rattle.commands.specs.declared.progress.Progress.{Progress}
 use Rattle.commands.specs.declared.admit.Admitted.the-variants.{Refused, Next}
 use Rattle.commands.specs.Rows.{headerLength}
-use Rattle.commands.specs.Command.{stageOf}
 use Rattle.commands.specs.Bytes.{parseOf, widthOf}
 use Rattle.commands.specs.Progress.{afterOf, ended}
-use Rattle.commands.specs.Cause.{mayCome, follows, commandCauseOf}
+use Rattle.commands.specs.Cause.{inOrder, commandCauseOf}
 use Rattle.commands.specs.Admit.{admitOf}
 use Rattle.commands.proofs.Coding.{after-at, parse-room, width-positive}
 use Rattle.ticket.specs.declared.fields.Mark.{Mark}
 use Rattle.ticket.specs.Fields.{marksWith}
 use Rattle.ticket.specs.Read.{refusal, admittedAs, parsedAs, nextCommandOf, endOf, readOnward, ifEnded, readFrom}
-use Rattle.ticket.specs.Spells.{requiredSize}
 use Rattle.ticket.specs.OldTicket.{movedPlace, moved}
 
--- the same progress, three bytes later and at a stage n
-abbrev pub later : Progress → ℕ → Progress
-later p n =
-    record {
-      at = p .at + 3;
-      stage = n;
-      header = p .header;
-      count = p .count;
-      last = p .last;
-      nameable = p .nameable;
-    }
+-- the same progress n bytes later, at another stage, and perhaps another latest command
+abbrev pub later : Progress → (n stage : ℕ) (nameable : Bool) → Progress
+later p n k b =
+    record { at = p .at + n; stage = k; header = p .header; count = p .count; last = p .last; nameable = b }
 
--- at both stages the command that some bytes begin with may come, or at none
-abbrev pub Alike : (stage n : ℕ) → List ℕ → Type 0
-Alike stage n s = (c : Command) → parseOf s ≡ Found c → mayCome n (stageOf c) ≡ mayCome stage (stageOf c)
+-- of both the command that some bytes begin with is in order, or of none
+abbrev pub Alike : Progress → Progress → List ℕ → Type 0
+Alike p q s = (c : Command) → parseOf s ≡ Found c → inOrder q c ≡ inOrder p c
 
-module _ (p : Progress) (k : ℕ) (c : Command) (alike : mayCome k (stageOf c) ≡ mayCome (p .stage) (stageOf c)) where
-  same-follows : (d : Command) → follows (later p k) d ≡ follows p d
-  same-follows (Command.Header d) = refl
-  same-follows (Command.Mark a d) = refl
-  same-follows (Command.Name a t) = refl
-  same-follows Command.End = refl
-
-  same-cause : commandCauseOf (later p k) c ≡ commandCauseOf p c
+module _ (p : Progress) (n k : ℕ) (b : Bool) (c : Command) where
+  pub same-cause : inOrder (later p n k b) c ≡ inOrder p c → commandCauseOf (later p n k b) c ≡ commandCauseOf p c
   unfolding commandCauseOf
-  same-cause = rw (alike, same-follows c)
+  same-cause alike = rw alike
 
--- after a command the stages are the same
-later-after : (p : Progress) (k : ℕ) (c : Command) → afterOf (later p k) c
-    ≡ later (afterOf p c) (afterOf p c .stage)
+  plus : (w : ℕ) → p .at + n + w ≡ p .at + w + n
+  plus w = omega arith
+
+-- after a command both are at the same stage, and have the same latest command
+pub later-after : (p : Progress) (n k : ℕ) (b : Bool) (c : Command) → afterOf (later p n k b) c
+    ≡ later (afterOf p c) n (afterOf p c .stage) (afterOf p c .nameable)
 unfolding afterOf
-later-after p k (Command.Header c) =
-    let e : p .at + 3 + widthOf (Command.Header c) ≡ p .at + widthOf (Command.Header c) + 3 = omega arith in rw e
-later-after p k (Command.Mark a d) =
-    let e : p .at + 3 + widthOf (Command.Mark a d) ≡ p .at + widthOf (Command.Mark a d) + 3 = omega arith in rw e
-later-after p k (Command.Name a t) =
-    let e : p .at + 3 + widthOf (Command.Name a t) ≡ p .at + widthOf (Command.Name a t) + 3 = omega arith in rw e
-later-after p k Command.End =
-    let e : p .at + 3 + widthOf Command.End ≡ p .at + widthOf Command.End + 3 = omega arith in rw e
+later-after p n k b (Command.Header c) = rw (plus p n k b (Command.Header c) (widthOf (Command.Header c)))
+later-after p n k b (Command.Mark a d) = rw (plus p n k b (Command.Mark a d) (widthOf (Command.Mark a d)))
+later-after p n k b (Command.Name a t) = rw (plus p n k b (Command.Name a t) (widthOf (Command.Name a t)))
+later-after p n k b Command.End = rw (plus p n k b Command.End (widthOf Command.End))
 
-module _ (p : Progress) (k : ℕ) (from : requiredSize ≤ p .at) where
-  moved-at : (n : ℕ) → movedPlace (refusal n (p .at)) ≡ refusal n (p .at + 3)
-  moved-at n = rw (le-ltb (p .at) requiredSize from)
+same-order : (p : Progress) (n : ℕ) (c : Command) → inOrder (later p n (p .stage) (p .nameable)) c ≡ inOrder p c
+same-order p n (Command.Header c) = refl
+same-order p n (Command.Mark a d) = refl
+same-order p n (Command.Name a t) = refl
+same-order p n Command.End = refl
 
-  at-end : (ms : List Mark) (s : List ℕ) → endOf (later p k) ms s ≡ moved (endOf p ms s)
-  at-end ms [] = refl
-  at-end ms (b ∷ s) = rw (moved-at 8)
+module _ (from n : ℕ) where
+  module _ (p : Progress) (k : ℕ) (b : Bool) (after : from ≤ p .at) where
+    moved-at : (v : ℕ) → movedPlace from n (refusal v (p .at)) ≡ refusal v (p .at + n)
+    moved-at v = rw (le-ltb (p .at) from after)
 
-  -- one turn, with what is known of the rest
-  module _ (n m : ℕ) (ms : List Mark) (s : List ℕ) (alike : Alike (p .stage) k s)
-      (rest : (c : Command) → parseOf s ≡ Found c → readFrom m (afterOf (later p k) c) (marksWith ms c)
-      (drop (widthOf c) s) ≡ moved (readFrom n (afterOf p c) (marksWith ms c) (drop (widthOf c) s))) where
-    by-cause : (c : Command) → parseOf s ≡ Found c → (v : ℕ) (b : Bool)
-        → let old = cond b (Next (afterOf p c)) (Refused (refusal v (p .at))) in
-        let new = cond b (Next (afterOf (later p k) c)) (Refused (refusal v (p .at + 3))) in
-        readOnward (admittedAs new c) ms s (readFrom m) ≡ moved (readOnward (admittedAs old c) ms s (readFrom n))
-    by-cause c f v true = rest c f
-    by-cause c f v false = rw (moved-at v)
+    at-end : (ms : List Mark) (s : List ℕ) → endOf (later p n k b) ms s ≡ moved from n (endOf p ms s)
+    at-end ms [] = refl
+    at-end ms (x ∷ s) = rw (moved-at 8)
 
-    by-parsed : (d : ParsedCommand) → parseOf s ≡ d → readOnward (parsedAs d (later p k)) ms s (readFrom m)
-        ≡ moved (readOnward (parsedAs d p) ms s (readFrom n))
-    unfolding admitOf
-    by-parsed Unknown f = rw (moved-at 1)
-    by-parsed Cut f = rw (moved-at 2)
-    by-parsed (Found c) f =
-        rw (same-cause p k c (alike c f)) (by-cause c f (commandCauseOf p c) (eqb (commandCauseOf p c) 0))
+    -- one turn, with what is known of the rest
+    module _ (l m : ℕ) (ms : List Mark) (s : List ℕ) (alike : Alike p (later p n k b) s)
+        (rest : (c : Command) → parseOf s ≡ Found c → readFrom m (afterOf (later p n k b) c) (marksWith ms c)
+        (drop (widthOf c) s) ≡ moved from n (readFrom l (afterOf p c) (marksWith ms c) (drop (widthOf c) s))) where
+      by-cause : (c : Command) → parseOf s ≡ Found c → (v : ℕ) (t : Bool)
+          → let old = cond t (Next (afterOf p c)) (Refused (refusal v (p .at))) in
+          let new = cond t (Next (afterOf (later p n k b) c)) (Refused (refusal v (p .at + n))) in
+          readOnward (admittedAs new c) ms s (readFrom m)
+          ≡ moved from n (readOnward (admittedAs old c) ms s (readFrom l))
+      by-cause c f v true = rest c f
+      by-cause c f v false = rw (moved-at v)
 
-    by-ended : (b : Bool) → ifEnded b (later p k) ms s (readFrom m) ≡ moved (ifEnded b p ms s (readFrom n))
-    unfolding nextCommandOf
-    by-ended true = at-end ms s
-    by-ended false = by-parsed (parseOf s) refl
+      by-parsed : (d : ParsedCommand) → parseOf s ≡ d → readOnward (parsedAs d (later p n k b)) ms s (readFrom m)
+          ≡ moved from n (readOnward (parsedAs d p) ms s (readFrom l))
+      unfolding admitOf
+      by-parsed Unknown f = rw (moved-at 1)
+      by-parsed Cut f = rw (moved-at 2)
+      by-parsed (Found c) f =
+          rw (same-cause p n k b c (alike c f)) (by-cause c f (commandCauseOf p c) (eqb (commandCauseOf p c) 0))
 
-pub read-later : (n m : ℕ) (p : Progress) (k : ℕ) (ms : List Mark) (s : List ℕ) → length s < n → length s < m
-    → requiredSize ≤ p .at → eqb k (headerLength + 1) ≡ ended p → Alike (p .stage) k s
-    → readFrom m (later p k) ms s ≡ moved (readFrom n p ms s)
-unfolding readFrom
-read-later zero m p k ms s l o from e alike = absurd (omega arith)
-read-later (suc n) zero p k ms s l o from e alike = absurd (omega arith)
-read-later (suc n) (suc m) p k ms s l o from e alike =
-    let rest : (c : Command) → parseOf s ≡ Found c → readFrom m (afterOf (later p k) c) (marksWith ms c)
-    (drop (widthOf c) s) ≡ moved (readFrom n (afterOf p c) (marksWith ms c) (drop (widthOf c) s)) =
-    λ c f.
-    let shorter : length (drop (widthOf c) s) < length s =
-    omega (arith, length-drop (widthOf c) s, parse-room s c f, width-positive c) in
-    rw (later-after p k c) (read-later n m (afterOf p c) (afterOf p c .stage) (marksWith ms c) (drop (widthOf c) s)
-    (omega arith) (omega arith) (omega (arith, after-at p c)) refl (λ d g. refl)) in
-    rw e (by-ended p k from n m ms s alike rest (ended p))
+      by-ended : (t : Bool) → ifEnded t (later p n k b) ms s (readFrom m)
+          ≡ moved from n (ifEnded t p ms s (readFrom l))
+      unfolding nextCommandOf
+      by-ended true = at-end ms s
+      by-ended false = by-parsed (parseOf s) refl
+
+  pub read-later : (l m : ℕ) (p : Progress) (k : ℕ) (b : Bool) (ms : List Mark) (s : List ℕ) → length s < l
+      → length s < m → from ≤ p .at → eqb k (headerLength + 1) ≡ ended p → Alike p (later p n k b) s
+      → readFrom m (later p n k b) ms s ≡ moved from n (readFrom l p ms s)
+  unfolding readFrom
+  read-later zero m p k b ms s few o after e alike = absurd (omega arith)
+  read-later (suc l) zero p k b ms s few o after e alike = absurd (omega arith)
+  read-later (suc l) (suc m) p k b ms s few o after e alike =
+      let rest : (c : Command) → parseOf s ≡ Found c → readFrom m (afterOf (later p n k b) c) (marksWith ms c)
+      (drop (widthOf c) s) ≡ moved from n (readFrom l (afterOf p c) (marksWith ms c) (drop (widthOf c) s)) =
+      λ c f.
+      let shorter : length (drop (widthOf c) s) < length s =
+      omega (arith, length-drop (widthOf c) s, parse-room s c f, width-positive c) in
+      rw (later-after p n k b c) (read-later l m (afterOf p c) (afterOf p c .stage) (afterOf p c .nameable)
+      (marksWith ms c) (drop (widthOf c) s) (omega arith) (omega arith) (omega (arith, after-at p c)) refl
+      (λ d g. same-order (afterOf p c) n d)) in
+      rw e (by-ended p k b after l m ms s alike rest (ended p))

@@ -1,4 +1,5 @@
 pub mod Snoc
+mod Own
 pub mod Fitting
 pub mod MarkIndex
 pub mod Stage
@@ -6,6 +7,8 @@ pub mod Step
 pub mod Kept
 pub mod ReadWritten
 pub mod Listed
+pub mod Says
+mod Text
 pub mod SoFar
 pub mod Turned
 pub mod Course
@@ -13,12 +16,13 @@ pub mod MarkArray
 pub mod ReadLoop
 pub mod Checks
 pub mod Free
-pub mod Says
 pub mod Readable
 pub mod WrittenRead
 pub mod Parts
 pub mod HeaderParts
 pub mod Accepts
+pub mod Names
 mod Later
 pub mod OldTicket
+pub mod WithNames
 mod Placed

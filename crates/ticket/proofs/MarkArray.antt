@@ -3,18 +3,15 @@
 use Prim.Native.Nat.{ℕ, suc, _+_, _-_, _≤_, _<_}
 use native.Mathlib.Omega.{arith}
 use mathlib.Core.Path.{_≡_}
-use mathlib.Core.Bool.{true, and-eq-true-iff}
 use mathlib.Core.List.{List, [], _∷_, _++_}
 use lib.ListN.{length, getD, set, replicate, length-append}
-use lib.Seq.{append-snoc, set-append-seam, getD-append-seam, set-getD}
+use lib.Seq.{append-snoc, set-append-seam, set-getD}
 use Rattle.commands.specs.declared.command.Command.{Command}
 use Rattle.commands.specs.declared.command.Command.the-variants as Command
 use Rattle.commands.specs.declared.progress.Progress.{Progress}
-use Rattle.commands.specs.Cause.{inOrder}
 use Rattle.commands.specs.Progress.{afterOf}
-use Rattle.commands.proofs.Causes.{in-order}
 use Rattle.ticket.specs.declared.fields.Mark.{Mark}
-use Rattle.ticket.specs.Fields.{blankMark, named, marksWith, inFileOrder}
+use Rattle.ticket.specs.Fields.{blankMark, marksWith, inFileOrder}
 use Rattle.ticket.specs.inner.Entered.{enteredOf}
 use Rattle.ticket.proofs.SoFar.{Consistent, length-ordered}
 
@@ -30,16 +27,7 @@ module _ (n : ℕ) (ms : List Mark) (m : Mark) where
       let more : n - length ms ≡ suc (n - length (ms ++ (m ∷ []))) = omega (arith, length-append ms (m ∷ [])) in
       rw (more, append-snoc ms m) (set-append-seam ms blankMark (replicate (n - length (ms ++ (m ∷ []))) blankMark) m)
 
-  -- where the last mark stands
-  get-last : (d : Mark) → getD (filled n (ms ++ (m ∷ []))) (length ms) d ≡ m
-  unfolding filled
-  get-last d = rw append-snoc (getD-append-seam ms m (replicate (n - length (ms ++ (m ∷ []))) blankMark) d)
-
-  set-last : (k : Mark) → set (filled n (ms ++ (m ∷ []))) (length ms) k ≡ filled n (ms ++ (k ∷ []))
-  unfolding filled
-  set-last k = simp (append-snoc, length-append) (set-append-seam ms m (replicate (n - (length ms + 1)) blankMark) k)
-
--- the array after a command, which changes the latest mark at most: that stands at the count less 1
+-- the array after a command, of which a mark's alone changes an entry: the latest mark stands at the count less 1
 module _ (n : ℕ) (d : Mark) (p : Progress) where
   abbrev Entered : List Mark → Command → Type 0
   Entered ms c =
@@ -47,20 +35,11 @@ module _ (n : ℕ) (d : Mark) (p : Progress) where
       let old = filled n (inFileOrder ms) in
       set old i (enteredOf (getD old i d) c) ≡ filled n (inFileOrder (marksWith ms c))
 
-  entered-name : (ms : List Mark) → Consistent p ms → (a t : ℕ) → p .nameable ≡ true → Entered ms (Command.Name a t)
+  pub entered : (ms : List Mark) → Consistent p ms → (c : Command) → afterOf p c .count ≤ n → Entered ms c
   unfolding afterOf
-  entered-name [] k a t e = absurd (omega (arith, k .sound .named e))
-  entered-name (m ∷ ms) k a t e =
-      let i : p .count - 1 ≡ length (inFileOrder ms) = omega (arith, length-ordered ms) in
-      rw (i, get-last n (inFileOrder ms) m d) (set-last n (inFileOrder ms) m (named m t))
-
-  pub entered : (ms : List Mark) → Consistent p ms → (c : Command) → inOrder p c ≡ true → afterOf p c .count ≤ n →
-      Entered ms c
-  unfolding afterOf
-  entered ms k (Command.Header c) o l = set-getD (filled n (inFileOrder ms)) _ d
-  entered ms k (Command.Mark a x) o l =
+  entered ms k (Command.Header c) l = set-getD (filled n (inFileOrder ms)) _ d
+  entered ms k (Command.Mark a x) l =
       let i : p .count + 1 - 1 ≡ length (inFileOrder ms) = omega (arith, length-ordered ms) in
       rw i (set-next n (inFileOrder ms) _ (omega (arith, length-ordered ms)))
-  entered ms k (Command.Name a t) o l =
-      entered-name ms k a t (and-eq-true-iff (p .nameable) _ .0 (in-order p (Command.Name a t) o .1) .0)
-  entered ms k Command.End o l = set-getD (filled n (inFileOrder ms)) _ d
+  entered ms k (Command.Name a t) l = set-getD (filled n (inFileOrder ms)) _ d
+  entered ms k Command.End l = set-getD (filled n (inFileOrder ms)) _ d

@@ -33,7 +33,7 @@ use Rattle.ticket.specs.OldTicket.{begun, begunWithHome, moved, ReadAlik
 use Rattle.ticket.proofs.Checks.{not-next}
 use Rattle.ticket.proofs.Fitting.{fit-append}
 use Rattle.ticket.proofs.Free.{free-admitted, admitted-free}
-use Rattle.ticket.proofs.Later.{Alike, read-later}
+use Rattle.ticket.proofs.Later.{later, Alike, read-later}
 use Rattle.ticket.proofs.Readable.{header-says, headedWithoutHome, required-says}
 use Rattle.ticket.proofs.ReadWritten.{refused-stays}
 use Rattle.ticket.proofs.Stage.{by-admission, stage-after}
@@ -112,7 +112,9 @@ module _ (h : Header) (rest : List ℕ) (fits : AllFit (requiredCommands h)) whe
     unfolding encodeOf
     first-byte = away
 
-    alike : (s : List ℕ) → eqb (getD s 0 0) 0x07 ≡ false → Alike 4 5 s
+    alike : (s : List ℕ) → eqb (getD s 0 0) 0x07 ≡ false
+        → Alike (headedWithoutHome h) (later (headedWithoutHome h) 3 headerLength false) s
+    unfolding afterOf
     alike [] e c f = absurd (omega (arith, parse-room [] c f, width-positive c))
     alike (b ∷ s) e (Command.Header (Code w)) f = refl
     alike (b ∷ s) e (Command.Header (Data w)) f = refl
@@ -125,7 +127,7 @@ module _ (h : Header) (rest : List ℕ) (fits : AllFit (requiredCommands h)) whe
     alike (b ∷ s) e Command.End f = refl
 
     by-checks : (a : Admitted) → allThen (Next initialProgress) (requiredCommands h) ≡ a
-        → readOf (begunWithHome h rest) ≡ moved (readOf (begun h rest))
+        → readOf (begunWithHome h rest) ≡ moved requiredSize 3 (readOf (begun h rest))
     unfolding afterOf widthOf encodeOf
     by-checks (Refused r) e =
         let before : r .place < requiredSize = refused-before (requiredCommands h) initialProgress r e in
@@ -137,9 +139,9 @@ module _ (h : Header) (rest : List ℕ) (fits : AllFit (requiredCommands h)) whe
         let old = read-begun ∙ ap (onward (19 + length rest) rest) (free-admitted _ (requiredCommands h) free) in
         read-with-home
         ∙ ap (onward (21 + length rest) rest) (free-admitted _ (headerCommands homed) free-with-home)
-        ∙ read-later (19 + length rest) (21 + length rest) (headedWithoutHome h) headerLength [] rest (omega arith)
-        (omega arith) (omega arith) refl (alike rest first-byte)
-        ∙ sym (ap moved old)
+        ∙ read-later requiredSize 3 (19 + length rest) (21 + length rest) (headedWithoutHome h) headerLength false []
+        rest (omega arith) (omega arith) (omega arith) refl (alike rest first-byte)
+        ∙ sym (ap (moved requiredSize 3) old)
 
 pub read-alike : ReadAlike
 read-alike h rest fits away = by-checks h rest fits away _ refl

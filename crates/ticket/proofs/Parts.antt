@@ -10,12 +10,12 @@ use Rattle.commands.specs.declared.command.Command.{Command}
 use Rattle.commands.specs.declared.command.Command.the-variants as Command
 use Rattle.commands.specs.declared.header.Header.{Header}
 use Rattle.commands.specs.Header.{headerCommands}
-use Rattle.commands.specs.Bytes.{encodeOf}
+use Rattle.commands.specs.Bytes.{encodeOf, widthOf}
 use Rattle.commands.proofs.Coding.{length-encode, width-positive}
 use Rattle.ticket.specs.declared.fields.Mark.{Mark}
 use Rattle.ticket.specs.declared.fields.Ticket.{Ticket}
 use Rattle.ticket.specs.Fields.{blankMark, markIndex, listed, fieldsOf}
-use Rattle.ticket.specs.Write.{commandsAt, markCommands, commandsOf, encodeAll, bytesOf}
+use Rattle.ticket.specs.Write.{markCommand, markCommands, commandsOf, encodeAll, bytesOf}
 use Rattle.ticket.proofs.Snoc.{commands-snoc}
 
 pub encode-append : (cs ds : List Command) → encodeAll (cs ++ ds) ≡ encodeAll cs ++ encodeAll ds
@@ -31,10 +31,10 @@ abbrev pub marksBytes : List Mark → ℕ → List ℕ
 marksBytes ms n = encodeAll (markCommands (listed ms n))
 
 pub marks-more : (ms : List Mark) (i : ℕ) {j : ℕ} → j ≡ markIndex i →
-    marksBytes ms (suc i) ≡ marksBytes ms i ++ encodeAll (commandsAt (getD ms j blankMark))
+    marksBytes ms (suc i) ≡ marksBytes ms i ++ encodeOf (markCommand (getD ms j blankMark))
 marks-more ms i e =
-    rw (e, commands-snoc (listed ms i)) (encode-append (markCommands (listed ms i))
-    (commandsAt (getD ms (markIndex i) blankMark)))
+    let m = markCommand (getD ms (markIndex i) blankMark) in
+    rw (e, commands-snoc (listed ms i)) (encode-append (markCommands (listed ms i)) (m ∷ []) ∙ rw append-nil)
 
 marks-longer : (ms : List Mark) (n k : ℕ) → length (marksBytes ms n) ≤ length (marksBytes ms (n + k))
 marks-longer ms n zero = rw add-zero (omega arith)
@@ -70,13 +70,13 @@ module _ (t : Ticket) where
 
   -- and for one mark more, if there is one
   pub mark-room : (i : ℕ) {j : ℕ} → j ≡ markIndex i → i < t .count →
-      headerSize (t .header) + length (marksBytes (t .marks) i) +
-      length (encodeAll (commandsAt (getD (t .marks) j blankMark)))
+      headerSize (t .header) + length (marksBytes (t .marks) i) + widthOf (markCommand (getD (t .marks) j blankMark))
       ≤ length (bytesOf (fieldsOf t))
   mark-room i {j} e h =
       omega (
         arith,
         end-room (suc i) h,
         ap length (marks-more (t .marks) i e),
-        length-append (marksBytes (t .marks) i) (encodeAll (commandsAt (getD (t .marks) j blankMark))),
+        length-append (marksBytes (t .marks) i) (encodeOf (markCommand (getD (t .marks) j blankMark))),
+        length-encode (markCommand (getD (t .marks) j blankMark)),
       )

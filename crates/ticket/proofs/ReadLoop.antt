@@ -16,7 +16,6 @@ use Rattle.commands.specs.declared.progress.Progress.{Progress}
 use Rattle.commands.specs.Bytes.{parseOf, widthOf}
 use Rattle.commands.specs.Cause.{commandCauseOf}
 use Rattle.commands.specs.Progress.{initialProgress, afterOf, ended}
-use Rattle.commands.proofs.Causes.{allowed}
 use Rattle.commands.proofs.Coding.{parse-room, width-positive, after-at}
 use Rattle.commands.proofs.Sound.{bounds}
 use Rattle.ticket.specs.declared.answer.ReadAnswer.the-variants as ReadAnswer
@@ -97,8 +96,7 @@ module _ (s : List ℕ) (array : List Mark) (p : Progress) (h : ReadState s arra
             enough = omega (arith, moved);
             rest = rw (e, on) at read-on;
             held =
-                rw (h .held) (entered 4096 d p (h .marks) (h .kept) c (allowed p c free .ordered)
-                (bounds (next .sound) .0));
+                rw (h .held) (entered 4096 d p (h .marks) (h .kept) c (bounds (next .sound) .0));
           }
 
     module _ (q : Progress) (c : Command) (e : nextCommandOf (drop (p .at) s) p ≡ NextCommand.Next q c) where

@@ -1,5 +1,5 @@
--- Reading the bytes of a ticket's commands gives its fields, or the refusal that the checks of these commands give,
--- with the same number and place.
+-- Reading the bytes of commands that state some fields gives these fields, or the refusal that the checks of the
+-- commands give, with the same number and place.
 -- Assumes nothing.
 use Prim.Native.Nat.{ℕ, zero, suc, _<_}
 use mathlib.Core.Path.{_≡_, refl, ap, _∙_}
@@ -11,57 +11,53 @@ use borrow.Author.Tests.{not-true}
 use Rattle.commands.specs.declared.command.Command.{Command}
 use Rattle.commands.specs.declared.command.Command.the-variants as Command
 use Rattle.answers.specs.declared.Refusal.{Refusal}
+use Rattle.commands.specs.declared.header.Header.{Header}
 use Rattle.commands.specs.declared.progress.Progress.{Progress}
 use Rattle.commands.specs.declared.admit.Admitted.the-variants.{Refused, Next}
 use Rattle.commands.specs.Every.{none, more}
-use Rattle.commands.specs.Header.{blankHeader, requiredCommands, headerCommands}
 use Rattle.commands.specs.Bytes.{encodeOf}
 use Rattle.commands.specs.Progress.{initialProgress, ended}
 use Rattle.commands.proofs.Coding.{length-encode, width-positive}
-use Rattle.ticket.specs.declared.fields.Name.{Name}
-use Rattle.ticket.specs.declared.fields.Name.the-variants.{Absent, Text}
 use Rattle.ticket.specs.declared.fields.Mark.{Mark}
 use Rattle.ticket.specs.Fields.{Fields, marksWith}
 use Rattle.ticket.specs.Read.{readFrom, readOf}
-use Rattle.ticket.specs.Write.{nameCommands, markCommands, commandsOf, encodeAll, bytesOf, allThen, checkOf}
-use Rattle.ticket.specs.Spells.{commandsWithoutHome, bytesWithoutHome}
+use Rattle.ticket.specs.Write.{encodeAll, bytesOf, allThen, checkOf}
+use Rattle.ticket.specs.Spells.{StatesHeader, StatesMarks, States, stated}
+use Rattle.ticket.specs.Spells.StatesHeader.{whole, homeless}
+use Rattle.ticket.specs.Spells.{StatesMarks as Marks}
 use Rattle.ticket.specs.RoundTrip.{AllFit, FitsFields, answered}
 use Rattle.ticket.proofs.Stage.{ends, stage-after}
 use Rattle.ticket.proofs.Step.{step}
-use Rattle.ticket.proofs.Kept.{header-after, headerAfter, keptOf, kept, kept-without-home}
+use Rattle.ticket.proofs.Kept.{header-after, headerAfter, keptOf, kept}
+use Rattle.ticket.proofs.Own.{own}
 
 -- the commands left, none after the end (true), or before it (false): the last is the end, and no other is
 data Closed : Bool → List Command → Type 0 where
   after : Closed true []
   before : {c : Command} {cs : List Command} → Closed (ends c) cs → Closed false (c ∷ cs)
 
-closed-name : (a : ℕ) (n : Name) (cs ds : List Command) → Closed false (cs ++ ds) →
-    Closed false ((nameCommands a n ++ cs) ++ ds)
-closed-name a Absent cs ds e = e
-closed-name a (Text t) cs ds e = before e
-
-closed-marks : (ms : List Mark) → Closed false (markCommands ms ++ (Command.End ∷ []))
-closed-marks [] = before after
-closed-marks (m ∷ ms) = before (closed-name (m .address) (m .name) (markCommands ms) _ (closed-marks ms))
+closed-marks : {ms : List Mark} {cs : List Command} → StatesMarks ms cs → Closed false (cs ++ (Command.End ∷ []))
+closed-marks Marks.none = before after
+closed-marks (Marks.unnamed K) = before (closed-marks K)
+closed-marks (Marks.named t n K) = before (before (closed-marks K))
 
 -- none of some commands is the end
 abbrev endless : List Command → Bool
 endless [] = true
 endless (c ∷ cs) = not (ends c) && endless cs
 
-closed-header : (cs ds : List Command) → endless cs ≡ true → Closed false ds → Closed false (cs ++ ds)
-closed-header [] ds e d = d
-closed-header (c ∷ cs) ds e d =
+closed-after : (cs ds : List Command) → endless cs ≡ true → Closed false ds → Closed false (cs ++ ds)
+closed-after [] ds e d = d
+closed-after (c ∷ cs) ds e d =
     let t = and-eq-true-iff (not (ends c)) _ .0 e in
-    before {c = c} {cs = cs ++ ds} (rw (not-true (ends c) (t .0)) (closed-header cs ds (t .1) d))
+    before {c = c} {cs = cs ++ ds} (rw (not-true (ends c) (t .0)) (closed-after cs ds (t .1) d))
 
-closed : (f : Fields) → Closed false (commandsOf f)
-unfolding commandsOf
-closed f = closed-header (headerCommands (f .header)) _ refl (closed-marks (f .marks))
+endless-header : {h : Header} {hs : List Command} → StatesHeader h hs → endless hs ≡ true
+endless-header whole = refl
+endless-header (homeless z) = refl
 
-closed-without-home : (f : Fields) → Closed false (commandsWithoutHome f)
-unfolding commandsWithoutHome
-closed-without-home f = closed-header (requiredCommands (f .header)) _ refl (closed-marks (f .marks))
+closed : {f : Fields} {cs : List Command} → States f cs → Closed false cs
+closed (stated {hs} H K) = closed-after hs _ (endless-header H) (closed-marks K)
 
 -- what comes after a refused command changes nothing
 pub refused-stays : (r : Refusal) (cs : List Command) → allThen (Refused r) cs ≡ Refused r
@@ -83,19 +79,13 @@ read-all (suc n) p ms (before {c} {cs} d) (more fit fits) e l =
     (keptOf (headerAfter (p .header) c) (marksWith ms c) cs))
     (λ r. rw refused-stays) (rw (← header-after p c) (read-all n _ _ d fits (stage-after p c) (shorter c _ n l)))
 
-from-start : {cs : List Command} → Closed false cs → AllFit cs → readOf (encodeAll cs)
-    ≡ answered (allThen (Next initialProgress) cs) (keptOf blankHeader [] cs)
+pub read-stated : (f : Fields) {cs : List Command} → States f cs → AllFit cs → readOf (encodeAll cs)
+    ≡ answered (allThen (Next initialProgress) cs) f
 unfolding readOf
-from-start d fits = read-all _ initialProgress [] d fits refl (omega arith)
+read-stated f {cs} S fits =
+    read-all _ initialProgress [] (closed S) fits refl (omega arith)
+    ∙ ap (answered (allThen (Next initialProgress) cs)) (kept f S)
 
 pub read-written : (f : Fields) → FitsFields f → readOf (bytesOf f) ≡ answered (checkOf f) f
 unfolding bytesOf checkOf
-read-written f fits = from-start (closed f) fits ∙ ap (answered (checkOf f)) (kept f)
-
--- where home is $0000 its command may be left out
-pub read-without-home : (f : Fields) → f .header .home ≡ 0 → AllFit (commandsWithoutHome f)
-    → readOf (bytesWithoutHome f) ≡ answered (allThen (Next initialProgress) (commandsWithoutHome f)) f
-unfolding bytesWithoutHome
-read-without-home f z fits =
-    from-start (closed-without-home f) fits
-    ∙ ap (answered (allThen (Next initialProgress) (commandsWithoutHome f))) (kept-without-home f z)
+read-written f fits = read-stated f (own f) fits

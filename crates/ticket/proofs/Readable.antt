@@ -1,4 +1,4 @@
--- The commands of a ticket have no cause against any where its fields are as the rules say, and only there.
+-- Commands that state some fields have no cause against any where the fields are as the rules say, and only there.
 -- Assumes nothing.
 use Prim.Native.Nat.{ℕ, _+_, _≤_, _<_}
 use mathlib.Core.Path.{_≡_, refl, ap}
@@ -13,27 +13,27 @@ use Rattle.commands.specs.declared.command.Command.the-variants as Command
 use Rattle.commands.specs.declared.header.Header.{Header}
 use Rattle.commands.specs.declared.progress.Progress.{Progress}
 use Rattle.commands.specs.declared.admit.Admitted.the-variants.{Next}
-use Rattle.commands.specs.Number.{digits}
 use Rattle.commands.specs.Header.{headerWith, requiredCommands, headerCommands}
 use Rattle.commands.specs.Bytes.{widthOf}
 use Rattle.commands.specs.Rows.{headerLength}
-use Rattle.commands.specs.Progress.{initialProgress, markedOf, afterOf}
+use Rattle.commands.specs.Progress.{initialProgress, afterOf}
 use Rattle.commands.specs.Cause.{mayCome, inOrder, rangesHold, edgesHold, separate, homeOutside, inside}
 use Rattle.commands.specs.Cause.{commandCauseOf}
 use Rattle.commands.proofs.Causes.{allowed, allow}
 use Rattle.commands.proofs.Every.{first}
-use Rattle.ticket.specs.declared.fields.Name.{Name}
-use Rattle.ticket.specs.declared.fields.Name.the-variants.{Absent, Text}
 use Rattle.ticket.specs.declared.fields.Mark.{Mark}
 use Rattle.ticket.specs.Fields.{Fields}
-use Rattle.ticket.specs.Write.{nameCommands, markCommands, commandsOf, checkOf}
-use Rattle.ticket.specs.Spells.{commandsWithoutHome}
+use Rattle.ticket.specs.Write.{markCommand, commandsOf, checkOf}
+use Rattle.ticket.specs.Spells.{StatesMarks, States, stated}
+use Rattle.ticket.specs.Spells.StatesHeader.{whole, homeless}
+use Rattle.ticket.specs.Spells.{StatesMarks as Marks}
 use Rattle.commands.specs.Every.{Every}
-use Rattle.ticket.specs.Rules.{Between, In, HeaderRules, ClaimRules, NameRule, absent, text, MarkRules, Rising}
-use Rattle.ticket.specs.Rules.{Readable}
+use Rattle.ticket.specs.Rules.{In, HeaderRules, ClaimRules, MarkRules, Rising, Readable}
 use Rattle.ticket.proofs.Says.{true-says, leb-says, ltb-says, eqb-says, after-says}
-use Rattle.ticket.proofs.Says.{printable-says, outside-says, apart-says}
+use Rattle.ticket.proofs.Says.{outside-says, apart-says}
+use Rattle.ticket.proofs.Text.{name-free}
 use Rattle.ticket.proofs.Free.{afterAll, Free, free-admitted, admitted-free}
+use Rattle.ticket.proofs.Own.{own}
 
 ruleset tests = (true-says, and-eq-true-iff, leb-says, ltb-says, eqb-says, after-says, outside-says, apart-says)
 
@@ -72,7 +72,7 @@ pub required-says : (h : Header) (cs : List Command) → h .home ≡ 0 → Free 
 unfolding afterOf widthOf rangesHold
 required-says h cs z = simp (cause-says, tests) (λ f. search arith, λ r. search arith)
 
--- ---- one mark and its name, after a header and perhaps other marks
+-- ---- one mark, after a header and perhaps other marks
 
 module _ (p : Progress) (e : mayCome (p .stage) headerLength ≡ true) where
   mark-says : (a : ℕ) (k : Claim) → (commandCauseOf p (Command.Mark a k) ≡ 0) ↔ ((1 ≤ p .count → p .last < a)
@@ -83,41 +83,6 @@ module _ (p : Progress) (e : mayCome (p .stage) headerLength ≡ true) where
   end-free : commandCauseOf p Command.End ≡ 0
   unfolding rangesHold
   end-free = simp (cause-says, tests) (search)
-
-module _ (p : Progress) where
-  text-says : (w a t : ℕ) → (commandCauseOf (markedOf p w headerLength a) (Command.Name a t) ≡ 0)
-      ↔ Every (Between 0x20 0x7e) (digits 8 t)
-  unfolding rangesHold
-  text-says w a t = (
-    λ c. printable-says (digits 8 t) .0 (and-eq-true-iff _ true .0
-        (allowed (markedOf p w headerLength a) (Command.Name a t) c .ranged) .0),
-    λ r.
-        allow (markedOf p w headerLength a) (Command.Name a t)
-        (record {
-          ordered = simp tests (omega arith);
-          ranged = rw (printable-says (digits 8 t) .1 r);
-          edged = refl;
-          separated = refl;
-          homed = refl;
-          placed = refl;
-        }),
-  )
-
-text-of : {t : ℕ} → NameRule (Text t) → Every (Between 0x20 0x7e) (digits 8 t)
-text-of (text r) = r
-
--- what comes after a mark and its name depends on the header, how many marks there are and the last address
-module _ (p : Progress) (a : ℕ) (cs ds : List Command) (R : Header → ℕ → ℕ → Type 0)
-    (rest : (q : Progress) → mayCome (q .stage) headerLength ≡ true →
-    Free q (cs ++ ds) ↔ R (q .header) (q .count) (q .last)) where
-  name-says : (w : ℕ) (n : Name) → Free (markedOf p w headerLength a) ((nameCommands a n ++ cs) ++ ds) ↔ (NameRule n
-      × R (p .header) (p .count + 1) a)
-  unfolding afterOf
-  name-says w Absent = (λ f. (absent, rest _ refl .0 f), λ r. rest _ refl .1 (r .1))
-  name-says w (Text t) = (
-    λ f. (text (text-says p w a t .0 (f .0)), rest _ refl .0 (f .1)),
-    λ r. (text-says p w a t .1 (text-of (r .0)), rest _ refl .1 (r .1)),
-  )
 
 -- ---- the marks
 
@@ -137,27 +102,36 @@ rising-says m (n ∷ ms) = (rising-more, λ r. Rising.more (r .0) (r .1))
 abbrev Marked : List Mark → Header → ℕ → ℕ → Type 0
 Marked ms h n l = Every (MarkRules h) ms × (1 ≤ n → Under l ms) × Rising ms
 
-marks-says : (ms : List Mark) (p : Progress) → mayCome (p .stage) headerLength ≡ true →
-    Free p (markCommands ms ++ (Command.End ∷ [])) ↔ Marked ms (p .header) (p .count) (p .last)
+-- after a mark, and after its name: what comes then depends on the header, how many marks there are and the last
+-- address
+module _ {m : Mark} {ms : List Mark} (p : Progress) (e : mayCome (p .stage) headerLength ≡ true) {Rest : Type 0}
+    (rest : Rest ↔ Marked ms (p .header) (p .count + 1) (m .address)) where
+  more-says : (commandCauseOf p (markCommand m) ≡ 0) × Rest ↔ Marked (m ∷ ms) (p .header) (p .count) (p .last)
+  more-says =
+      let mark = mark-says p e (m .address) (m .claim) in
+      let rise = rising-says m ms in (
+        λ f.
+            let k = mark .0 (f .0) in
+            let r = rest .0 (f .1) in (
+              Every.more (record { claimed = k .1; inside = k .2 }) (r .0),
+              k .0,
+              rise .1 (r .1 (omega arith), r .2),
+            ),
+        λ r.
+            let k = first (r .0) in
+            let s = rise .0 (r .2) in
+            (mark .1 (r .1, k .0 .claimed, k .0 .inside), rest .1 (k .1, λ o. s .0, s .1)),
+      )
+
+marks-says : {ms : List Mark} {cs : List Command} → StatesMarks ms cs → (p : Progress)
+    → mayCome (p .stage) headerLength ≡ true
+    → Free p (cs ++ (Command.End ∷ [])) ↔ Marked ms (p .header) (p .count) (p .last)
 unfolding afterOf
-marks-says [] p e = (λ f. (Every.none, λ o. tt, Rising.none), λ r. (end-free p e, tt))
-marks-says (m ∷ ms) p e =
-    let mark = mark-says p e (m .address) (m .claim) in
-    let name =
-    name-says p (m .address) (markCommands ms) (Command.End ∷ []) (Marked ms) (marks-says ms) _ (m .name) in
-    let rise = rising-says m ms in (
-      λ f.
-          let k = mark .0 (f .0) in
-          let r = name .0 (f .1) in (
-            Every.more (record { claimed = k .1; inside = k .2; named = r .0 }) (r .1 .0),
-            k .0,
-            rise .1 (r .1 .1 (omega arith), r .1 .2),
-          ),
-      λ r.
-          let k = first (r .0) in
-          let s = rise .0 (r .2) in
-          (mark .1 (r .1, k .0 .claimed, k .0 .inside), name .1 (k .0 .named, (k .1, λ o. s .0, s .1))),
-    )
+marks-says Marks.none p e = (λ f. (Every.none, λ o. tt, Rising.none), λ r. (end-free p e, tt))
+marks-says (Marks.unnamed K) p e = more-says p e (marks-says K _ refl)
+marks-says (Marks.named t n K) p e =
+    let after = marks-says K _ refl in
+    more-says p e (λ f. after .0 (f .1), λ r. (name-free p _ _ t n, after .1 r))
 
 -- ---- the ticket
 
@@ -169,20 +143,17 @@ module _ (f : Fields) where
     λ r. (r .header-rules, (r .mark-rules, λ o. absurd (omega arith), r .rising)),
   )
 
-  pub readable-says : Free initialProgress (commandsOf f) ↔ Readable f
-  unfolding commandsOf afterOf
-  readable-says =
-      let head = header-says (f .header) (markCommands (f .marks) ++ (Command.End ∷ [])) in
-      let marks = marks-says (f .marks) (headed (f .header)) refl in (
+  pub readable-says : {cs : List Command} → States f cs → Free initialProgress cs ↔ Readable f
+  unfolding afterOf
+  readable-says (stated {cs} whole K) =
+      let head = header-says (f .header) (cs ++ (Command.End ∷ [])) in
+      let marks = marks-says K (headed (f .header)) refl in (
         λ c. let h = head .0 c in parts .0 (h .0, marks .0 (h .1)),
         λ r. let h = parts .1 r in head .1 (h .0, marks .1 (h .1)),
       )
-
-  pub readable-without-home : f .header .home ≡ 0 → Free initialProgress (commandsWithoutHome f) ↔ Readable f
-  unfolding commandsWithoutHome afterOf
-  readable-without-home z =
-      let head = required-says (f .header) (markCommands (f .marks) ++ (Command.End ∷ [])) z in
-      let marks = marks-says (f .marks) (headedWithoutHome (f .header)) refl in
+  readable-says (stated {cs} (homeless z) K) =
+      let head = required-says (f .header) (cs ++ (Command.End ∷ [])) z in
+      let marks = marks-says K (headedWithoutHome (f .header)) refl in
       let same = ap (λ (a : ℕ). Marked (f .marks) (headerWith (f .header) (Home a)) 0 0) z in (
         λ c. let h = head .0 c in parts .0 (h .0, rw same (marks .0 (h .1))),
         λ r. let h = parts .1 r in head .1 (h .0, marks .1 (rw same at (h .1))),
@@ -190,8 +161,8 @@ module _ (f : Fields) where
 
 pub readable-checked : (f : Fields) → Readable f → (q : Progress) × (checkOf f ≡ Next q)
 unfolding checkOf
-readable-checked f r = (_, free-admitted initialProgress (commandsOf f) (readable-says f .1 r))
+readable-checked f r = (_, free-admitted initialProgress (commandsOf f) (readable-says f (own f) .1 r))
 
 pub checked-readable : (f : Fields) (q : Progress) → checkOf f ≡ Next q → Readable f
 unfolding checkOf
-checked-readable f q e = readable-says f .0 (admitted-free initialProgress q (commandsOf f) e)
+checked-readable f q e = readable-says f (own f) .0 (admitted-free initialProgress q (commandsOf f) e)

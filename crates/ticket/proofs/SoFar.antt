@@ -2,7 +2,7 @@
 -- Assumes nothing.
 use mathlib.Core.Path.{_≡_, refl, subst, _∙_}
 use mathlib.Core.Logic.{⊎-elim}
-use mathlib.Core.Bool.{true, false, cond, and-eq-true-iff}
+use mathlib.Core.Bool.{Bool, true, false, cond, false≢true, and-eq-true-iff}
 use Prim.Native.Nat.{ℕ, _+_, _≤_, _<_}
 use native.Mathlib.Nat.{eq-or-lt-of-le}
 use native.Mathlib.Omega.{arith}
@@ -18,40 +18,74 @@ use Rattle.commands.specs.declared.header.Header.{Header}
 use Rattle.commands.specs.declared.progress.Progress.{Progress}
 use Rattle.commands.specs.Command.{stageOf}
 use Rattle.commands.specs.Cause.{inOrder, commandCauseOf}
-use Rattle.commands.specs.Progress.{initialProgress, stagedOf, namedOf, afterOf, ended}
+use Rattle.commands.specs.Fits.{Fits}
+use Rattle.commands.specs.Progress.{initialProgress, afterOf, ended}
 use Rattle.commands.specs.inner.Sound.{Sound}
 use Rattle.commands.specs.Header.{headerWith, requiredCommands, headerCommands}
-use Rattle.ticket.proofs.Snoc.{commands-snoc}
 use Rattle.commands.specs.Rows.{headerLength, requiredLength}
 use Rattle.commands.proofs.HeaderLaw.{header-law}
 use Rattle.commands.proofs.Causes.{in-order, allowed}
 use Rattle.commands.proofs.Sound.{sound-start, sound-after}
 use Rattle.ticket.specs.declared.fields.Mark.{Mark}
-use Rattle.ticket.specs.declared.fields.Name.{Name}
-use Rattle.ticket.specs.declared.fields.Name.the-variants.{Absent}
 use Rattle.ticket.specs.Fields.{marksWith, inFileOrder}
-use Rattle.ticket.specs.Write.{markCommands}
+use Rattle.ticket.specs.Write.{markCommand}
+use Rattle.ticket.specs.Spells.{NameText, StatesMarks}
+use Rattle.ticket.specs.Spells.{StatesMarks as Marks}
+use Rattle.ticket.proofs.Text.{name-text}
 
 -- the header's commands so far: those before the stage, or, past them, all but home's, where home is $0000
 pub data Headed (p : Progress) : List Command → Type 0 where
   whole : Headed p (take (p .stage) (headerCommands (p .header)))
   homeless : headerLength ≤ p .stage → p .header .home ≡ 0 → Headed p (requiredCommands (p .header))
 
--- after the header's commands the marks', and the end where it is read
-abbrev pub soFar : List Command → Progress → List Mark → List Command
-soFar header p ms = header ++ (markCommands (inFileOrder ms) ++ cond (ended p) (Command.End ∷ []) [])
+-- the marks so far, the latest first, and their commands; where a name may still come, the latest has none
+pub data Marked : (nameable : Bool) → List Mark → List Command → Type 0 where
+  none : Marked false [] []
+  unnamed : {n b : Bool} {m : Mark} {ms : List Mark} {cs : List Command} → Marked b ms cs
+      → Marked n (m ∷ ms) (cs ++ (markCommand m ∷ []))
+  named : {b : Bool} {m : Mark} {ms : List Mark} {cs : List Command} (t : ℕ) → NameText t → Marked b ms cs
+      → Marked false (m ∷ ms) (cs ++ (markCommand m ∷ Command.Name (m .address) t ∷ []))
+
+-- all commands so far: the header's, the marks', and the end where it is read
+pub record SoFar (p : Progress) (ms : List Mark) (cs : List Command) : Type 0 where
+  pub header : List Command
+  pub marks : List Command
+  pub headed : Headed p header
+  pub marked : Marked (p .nameable) ms marks
+  pub all : header ++ (marks ++ cond (ended p) (Command.End ∷ []) []) ≡ cs
+
+pub none-so-far : SoFar initialProgress [] []
+none-so-far = record { header = _; marks = _; headed = whole; marked = none; all = refl }
+
+-- ---- the marks in file order
+
+states-append : {ms ks : List Mark} {cs ds : List Command} → StatesMarks ms cs → StatesMarks ks ds
+    → StatesMarks (ms ++ ks) (cs ++ ds)
+states-append Marks.none K = K
+states-append (Marks.unnamed H) K = Marks.unnamed (states-append H K)
+states-append (Marks.named t n H) K = Marks.named t n (states-append H K)
+
+pub states-marked : {b : Bool} {ms : List Mark} {cs : List Command} → Marked b ms cs
+    → StatesMarks (inFileOrder ms) cs
+states-marked none = Marks.none
+states-marked (unnamed K) = states-append (states-marked K) (Marks.unnamed Marks.none)
+states-marked (named t n K) = states-append (states-marked K) (Marks.named t n Marks.none)
+
+pub length-ordered : (ms : List Mark) → length (inFileOrder ms) ≡ length ms
+length-ordered [] = refl
+length-ordered (m ∷ ms) = simp (length-append, length-ordered ms) (omega arith)
 
 -- ---- what progress says of its marks, the latest first
 
--- the latest mark has the last address, and no name where one may still come
-abbrev pub Latest : Progress → List Mark → Type 0
-Latest p [] = Unit
-Latest p (m ∷ ms) = (m .address ≡ p .last) × (p .nameable ≡ true → m .name ≡ Absent)
+-- the latest mark has the last address
+abbrev Latest : ℕ → List Mark → Type 0
+Latest last [] = Unit
+Latest last (m ∷ ms) = m .address ≡ last
 
 pub record Consistent (p : Progress) (ms : List Mark) : Type 0 where
   pub sound : Sound p
   pub counted : length ms ≡ p .count
-  pub latest : Latest p ms
+  pub latest : Latest (p .last) ms
   -- until home's command home is $0000
   pub homeless : p .stage ≤ requiredLength → p .header .home ≡ 0
 
@@ -64,47 +98,29 @@ empty : (ms : List Mark) → length ms ≡ 0 → ms ≡ []
 empty [] e = refl
 empty (m ∷ ms) e = absurd (omega arith)
 
+-- of no marks there are no commands
+unmarked : {b : Bool} {ms : List Mark} {cs : List Command} → Marked b ms cs → length ms ≡ 0 → cs ≡ []
+unmarked none e = refl
+unmarked (unnamed K) e = absurd (omega arith)
+unmarked (named t n K) e = absurd (omega arith)
+
+-- whatever the latest is, no name need come
+closed : {b : Bool} {ms : List Mark} {cs : List Command} → Marked b ms cs → Marked false ms cs
+closed none = none
+closed (unnamed K) = unnamed K
+closed (named t n K) = named t n K
+
 -- before the end
 not-ended : (p : Progress) → p .stage ≤ headerLength → ended p ≡ false
 not-ended p l = ne-eqb (p .stage) (headerLength + 1) (omega arith)
 
 module _ (p : Progress) where
-  no-marks : (ms : List Mark) → Consistent p ms → p .stage < headerLength → ms ≡ []
-  no-marks ms k h = empty ms (omega (arith, k .sound .unmarked h, k .counted))
-
-  -- the commands of the header so far and of the marks, and one command more
-  abbrev Said : List Command → List Mark → Command → Type 0
-  Said hs ms c =
-      (new : List Command) × Headed (afterOf p c) new × (soFar new (afterOf p c) (marksWith ms c)
-      ≡ soFar hs p ms ++ (c ∷ []))
-
   -- before a command of the header none is left out
   own-stage : (c : HeaderCommand) → inOrder p (Command.Header c) ≡ true → p .stage ≡ stageOf (Command.Header c)
   own-stage c o =
       let i = in-order p (Command.Header c) o .0 in
       let early = header-law (p .header) c .early in
       ⊎-elim (λ own. own) (λ past. omega (arith, i .ahead)) (i .own-or-past)
-
-  said-header : {hs : List Command} → Headed p hs → (ms : List Mark) → Consistent p ms → (c : HeaderCommand) →
-      inOrder p (Command.Header c) ≡ true → Said hs ms (Command.Header c)
-  unfolding afterOf
-  said-header whole ms k c o =
-      let e = own-stage c o in
-      let l = header-law (p .header) c in (
-        _,
-        whole,
-        rw (
-          no-marks ms k (omega (arith, l .early)),
-          ne-eqb (stageOf (Command.Header c) + 1) (headerLength + 1) (omega (arith, l .early)),
-          not-ended p (omega (arith, l .early)),
-          append-nil,
-          append-nil,
-          add-one (stageOf (Command.Header c)),
-          e,
-        ) (l .stated),
-      )
-  said-header (homeless late z) ms k c o =
-      absurd (omega (arith, in-order p (Command.Header c) o .0 .ahead, header-law (p .header) c .early))
 
   -- after the header: its commands stay, home's among them or, at its stage, left out
   module _ (q : Progress) (same : q .header ≡ p .header) (late : headerLength ≤ q .stage) where
@@ -124,50 +140,96 @@ module _ (p : Progress) where
         rw e (without-home (blank (omega arith)))) (eq-or-lt-of-le to)
     headed-at (homeless l z) blank to from = without-home z
 
-  module _ {hs : List Command} (H : Headed p hs) (ms : List Mark) (k : Consistent p ms) where
+  module _ (ms : List Mark) (k : Consistent p ms) where
+    headed-header : {hs ks : List Command} → Headed p hs → Marked (p .nameable) ms ks → (c : HeaderCommand)
+        → inOrder p (Command.Header c) ≡ true
+        → SoFar (afterOf p (Command.Header c)) ms ((hs ++ (ks ++ cond (ended p) (Command.End ∷ []) []))
+        ++ (Command.Header c ∷ []))
+    unfolding afterOf
+    headed-header whole K c o =
+        let e = own-stage c o in
+        let l = header-law (p .header) c in
+        let no-marks : length ms ≡ 0 = omega (arith, k .sound .unmarked (omega (arith, l .early)), k .counted) in
+        record {
+          header = _;
+          marks = [];
+          headed = whole;
+          marked = rw (empty ms no-marks) none;
+          all =
+              rw (
+                unmarked K no-marks,
+                ne-eqb (stageOf (Command.Header c) + 1) (headerLength + 1) (omega (arith, l .early)),
+                not-ended p (omega (arith, l .early)),
+                append-nil,
+                append-nil,
+                add-one (stageOf (Command.Header c)),
+                e,
+              ) (l .stated);
+        }
+    headed-header (homeless late z) K c o =
+        absurd (omega (arith, in-order p (Command.Header c) o .0 .ahead, header-law (p .header) c .early))
+
     -- a command after the header
-    headed-on : (c : Command) → stageOf c ≡ headerLength → afterOf p c .header ≡ p .header
-        → headerLength ≤ afterOf p c .stage → inOrder p c ≡ true → Headed (afterOf p c) hs × (ended p ≡ false)
-    headed-on c e same late o =
+    headed-on : {hs : List Command} → Headed p hs → (c : Command) → stageOf c ≡ headerLength
+        → afterOf p c .header ≡ p .header → headerLength ≤ afterOf p c .stage → inOrder p c ≡ true
+        → Headed (afterOf p c) hs × (ended p ≡ false)
+    headed-on H c e same late o =
         let i = in-order p c o .0 in
         let to : p .stage ≤ headerLength = omega (arith, i .ahead) in
         let from : requiredLength ≤ p .stage = ⊎-elim (λ own. omega arith) (λ past. past) (i .own-or-past) in
         (headed-at (afterOf p c) same late H (k .homeless) to from, not-ended p to)
 
   -- the latest mark has no name yet, and the name's address is its own
-  said-name : (hs : List Command) (ms : List Mark) → Consistent p ms → (a t : ℕ) → ended p ≡ false → p .nameable ≡ true
-      → a ≡ p .last
-      → soFar hs (afterOf p (Command.Name a t)) (marksWith ms (Command.Name a t)) ≡ soFar hs p ms
-      ++ (Command.Name a t ∷ [])
-  unfolding afterOf
-  said-name hs [] k a t e can l = absurd (omega (arith, k .sound .named can))
-  said-name hs (m ∷ ms) k a t e can l =
+  marked-name : {b : Bool} {ms : List Mark} {ks : List Command} → Marked b ms ks → b ≡ true → Latest (p .last) ms
+      → (a t : ℕ) → a ≡ p .last → NameText t
+      → (cs : List Command) × Marked false ms cs × (cs ≡ ks ++ (Command.Name a t ∷ []))
+  marked-name none e l a t same n = absurd (false≢true e)
+  marked-name (unnamed {m} {cs} K) e l a t same n =
       let own : a ≡ m .address = omega arith in
-      simp (e, own, k .latest .1 can, commands-snoc, append-assoc, append-nil)
+      (_, named t n K, rw (own, append-assoc))
+  marked-name (named u v K) e l a t same n = absurd (false≢true e)
 
-  said-step : {hs : List Command} → Headed p hs → (ms : List Mark) → Consistent p ms → (c : Command) →
-      inOrder p c ≡ true → Said hs ms c
+  said-step : {ms : List Mark} {ds : List Command} → SoFar p ms ds → Consistent p ms → (c : Command)
+      → commandCauseOf p c ≡ 0 → Fits c → inOrder p c ≡ true → SoFar (afterOf p c) (marksWith ms c) (ds ++ (c ∷ []))
   unfolding afterOf
-  said-step H ms k (Command.Header c) o = said-header H ms k c o
-  said-step H ms k (Command.Mark a l) o =
-      let h = headed-on H ms k (Command.Mark a l) refl refl (omega arith) o in
-      (_, h .0, simp (h .1, commands-snoc, append-assoc, append-nil))
-  said-step {hs} H ms k (Command.Name a t) o =
-      let h = headed-on H ms k (Command.Name a t) refl refl (omega arith) o in
+  said-step {ms} S k (Command.Header c) free fit o =
+      rw (← S .all) (headed-header ms k (S .headed) (S .marked) c o)
+  said-step {ms} S k (Command.Mark a l) free fit o =
+      let h = headed-on ms k (S .headed) (Command.Mark a l) refl refl (omega arith) o in
+      record {
+        header = S .header;
+        marks = _;
+        headed = h .0;
+        marked = unnamed (S .marked);
+        all = rw (← S .all) (simp (h .1, append-assoc, append-nil));
+      }
+  said-step {ms} S k (Command.Name a t) free fit o =
+      let h = headed-on ms k (S .headed) (Command.Name a t) refl refl (omega arith) o in
       let n = and-eq-true-iff (p .nameable) _ .0 (in-order p (Command.Name a t) o .1) in
-      (hs, h .0, said-name hs ms k a t (h .1) (n .0) (eqb-true _ _ (n .1)))
-  said-step H ms k Command.End o =
-      let h = headed-on H ms k Command.End refl refl (omega arith) o in
-      (_, h .0, simp (h .1, append-assoc, append-nil))
+      let name =
+      marked-name (S .marked) (n .0) (k .latest) a t (eqb-true _ _ (n .1)) (name-text p a t free fit) in
+      record {
+        header = S .header;
+        marks = name .0;
+        headed = h .0;
+        marked = name .1;
+        all = rw (← S .all, name .2) (simp (h .1, append-assoc, append-nil));
+      }
+  said-step {ms} S k Command.End free fit o =
+      let h = headed-on ms k (S .headed) Command.End refl refl (omega arith) o in
+      record {
+        header = S .header;
+        marks = S .marks;
+        headed = h .0;
+        marked = closed (S .marked);
+        all = rw (← S .all) (simp (h .1, append-assoc, append-nil));
+      }
 
-  pub said-next : {hs : List Command} → Headed p hs → (ms : List Mark) → Consistent p ms → (c : Command) →
-      commandCauseOf p c ≡ 0 → Said hs ms c
-  said-next H ms k c e = said-step H ms k c (allowed p c e .ordered)
+  pub said-next : {ms : List Mark} {ds : List Command} → SoFar p ms ds → Consistent p ms → (c : Command)
+      → commandCauseOf p c ≡ 0 → Fits c → SoFar (afterOf p c) (marksWith ms c) (ds ++ (c ∷ []))
+  said-next S k c e fit = said-step S k c e fit (allowed p c e .ordered)
 
 -- ---- one command more keeps it
-
-no-name : {n : Name} → false ≡ true → n ≡ Absent
-no-name e = cc
 
 module _ (p : Progress) where
   -- home, where the stage after a command of the header is still not past home's
@@ -177,46 +239,18 @@ module _ (p : Progress) where
       header-law (p .header) c .homeless (omega arith)
       ∙ k .homeless (omega (arith, in-order p (Command.Header c) o .0 .ahead))
 
-  kept-staged : (ms : List Mark) → Consistent p ms → (w n : ℕ) (h : Header) → Sound (stagedOf p w n h)
-      → (n + 1 ≤ requiredLength → h .home ≡ 0) → Consistent (stagedOf p w n h) ms
-  kept-staged [] k w n h s z = record { sound = s; counted = k .counted; latest = tt; homeless = z }
-  kept-staged (m ∷ ms) k w n h s z =
-      record { sound = s; counted = k .counted; latest = (k .latest .0, no-name); homeless = z }
-
-  -- a name leaves how many marks there are, and their addresses
-  kept-name : (ms : List Mark) → Consistent p ms → (a t w n : ℕ) → headerLength ≤ n → Sound (namedOf p w n)
-      → Consistent (namedOf p w n) (marksWith ms (Command.Name a t))
-  kept-name [] k a t w n late s =
-      record { sound = s; counted = k .counted; latest = tt; homeless = λ l. absurd (omega arith) }
-  kept-name (m ∷ ms) k a t w n late s =
-      record {
-        sound = s;
-        counted = k .counted;
-        latest = (k .latest .0, no-name);
-        homeless = λ l. absurd (omega arith);
-      }
-
   kept-step : (ms : List Mark) → Consistent p ms → (c : Command) → inOrder p c ≡ true → Sound (afterOf p c) →
       Consistent (afterOf p c) (marksWith ms c)
   unfolding afterOf
-  kept-step ms k (Command.Header c) o s = kept-staged ms k _ _ _ s (still-homeless ms k c o)
+  kept-step ms k (Command.Header c) o s =
+      record { sound = s; counted = k .counted; latest = k .latest; homeless = still-homeless ms k c o }
   kept-step ms k (Command.Mark a l) o s =
-      record {
-        sound = s;
-        counted = omega (arith, k .counted);
-        latest = (refl, λ n. refl);
-        homeless = λ l. absurd (omega arith);
-      }
-  kept-step ms k (Command.Name a t) o s = kept-name ms k a t _ _ (omega arith) s
+      record { sound = s; counted = omega (arith, k .counted); latest = refl; homeless = λ l. absurd (omega arith) }
+  kept-step ms k (Command.Name a t) o s =
+      record { sound = s; counted = k .counted; latest = k .latest; homeless = λ l. absurd (omega arith) }
   kept-step ms k Command.End o s =
-      kept-staged ms k _ headerLength _ s (λ (l : headerLength + 1 ≤ requiredLength). absurd (omega arith))
+      record { sound = s; counted = k .counted; latest = k .latest; homeless = λ l. absurd (omega arith) }
 
   pub consistent-next : (ms : List Mark) → Consistent p ms → (c : Command) → commandCauseOf p c ≡ 0 →
       Consistent (afterOf p c) (marksWith ms c)
   consistent-next ms k c e = kept-step ms k c (allowed p c e .ordered) (sound-after p c (k .sound) e)
-
--- ---- the marks in file order
-
-pub length-ordered : (ms : List Mark) → length (inFileOrder ms) ≡ length ms
-length-ordered [] = refl
-length-ordered (m ∷ ms) = simp (length-append, length-ordered ms) (omega arith)

@@ -6,14 +6,11 @@ use mathlib.Core.Bool.{cond}
 use mathlib.Core.List.{List, [], _∷_, _++_}
 use lib.Dec.{ltb}
 use lib.ListN.{length, getD, replicate}
-use Rattle.commands.specs.declared.command.Claim.{Claim}
 use Rattle.commands.specs.declared.command.Command.{Command}
 use Rattle.commands.specs.declared.command.Command.the-variants as Command
 use Rattle.answers.specs.declared.Refusal.{Refusal}
 use Rattle.commands.specs.declared.header.Header.{Header}
 use Rattle.commands.specs.Header.{blankHeader}
-use Rattle.ticket.specs.declared.fields.Name.{Name}
-use Rattle.ticket.specs.declared.fields.Name.the-variants.{Absent, Text}
 use Rattle.ticket.specs.declared.fields.Mark.{Mark}
 use Rattle.ticket.specs.declared.fields.Ticket.{Ticket}
 use Rattle.ticket.specs.declared.answer.ReadAnswer.{ReadAnswer}
@@ -29,18 +26,11 @@ pub data ReadOutcome : Type 0 where
   read : Fields → ReadOutcome
   refused : Refusal → ReadOutcome
 
-abbrev pub unnamed : ℕ → Claim → Mark
-unnamed a k = record { address = a; claim = k; name = Absent }
-
-abbrev pub named : Mark → ℕ → Mark
-named m t = record { address = m .address; claim = m .claim; name = Text t }
-
--- the marks, the latest first, with one command more: a mark is the latest, a name is its mark's
+-- the marks, the latest first, with one command more: a mark is the latest; a name is dropped (document 02, i)
 abbrev pub marksWith : List Mark → Command → List Mark
 marksWith ms (Command.Header c) = ms
-marksWith ms (Command.Mark a k) = unnamed a k ∷ ms
-marksWith [] (Command.Name a t) = []
-marksWith (m ∷ ms) (Command.Name a t) = named m t ∷ ms
+marksWith ms (Command.Mark a k) = record { address = a; claim = k } ∷ ms
+marksWith ms (Command.Name a t) = ms
 marksWith ms Command.End = ms
 
 abbrev pub inFileOrder : List Mark → List Mark
@@ -52,7 +42,6 @@ blankMark =
     record {
       address = 0;
       claim = record { cost = record { 0 = 0 }; depth = record { 0 = 0 }; need = record { 0 = 0 } };
-      name = Absent;
     }
 
 -- the code's ticket: the marks at the beginning of the array, blank ones after them

@@ -2,6 +2,7 @@ pub mod Fields
 pub mod Read
 pub mod Write
 pub mod Spells
+pub mod Names
 pub mod RoundTrip
 pub mod Rules
 pub mod OldTicket

@@ -1,8 +1,9 @@
 -- What the laws between reading and writing say (demand 2: a ticket read and written again has the same bytes; document
--- 02, e: this is required of tickets that carry home).
+-- 02, e and i: this is required of tickets that carry home and no name).
 -- Assumes nothing.
 use Prim.Native.Nat.{ℕ, _≤_}
 use mathlib.Core.Path.{_≡_}
+use mathlib.Core.Logic.{_↔_}
 use mathlib.Core.Bool.{true}
 use mathlib.Core.List.{List, _++_}
 use lib.ListN.{length, drop}
@@ -16,7 +17,7 @@ use Rattle.ticket.specs.declared.answer.Reading.{Reading}
 use Rattle.ticket.specs.declared.answer.Written.the-variants.{Length}
 use Rattle.ticket.specs.Fields.{Fields, ReadOutcome, read, refused, fieldsOf}
 use Rattle.ticket.specs.Write.{commandsOf, writeOf, outputOf}
-use Rattle.ticket.specs.Spells.{carriesHome}
+use Rattle.ticket.specs.Names.{asWritten}
 
 -- every operand fits its width, as in every value of the code's types
 abbrev pub AllFit : List Command → Type 0
@@ -30,13 +31,14 @@ abbrev pub answered : Admitted → Fields → ReadOutcome
 answered (Refused r) f = refused r
 answered (Next p) f = read f
 
--- A ticket that was read from some bytes, which carry home, and is written again has the same bytes: in every output
--- with room they stand at its beginning, what was there stands after them, and the answer is their length.
+-- The fields are written as these bytes: in every output with room they stand at its beginning, what was there stands
+-- after them, and the answer is their length.
+abbrev pub WrittenAs : Fields → List ℕ → Type 0
+WrittenAs f s =
+    (out : List ℕ) → length s ≤ length out
+    → (writeOf f (length out) ≡ Length (length s)) × (outputOf f out ≡ s ++ drop (length s) out)
+
+-- A ticket that was read from some bytes and is written again has the same bytes exactly where they carry home and no
+-- name.
 abbrev pub SameBytes : List ℕ → Reading → Type 0
-SameBytes s r =
-    r .answer ≡ Read
-    → carriesHome s ≡ true
-    → (out : List ℕ)
-    → length s ≤ length out
-    → let f = fieldsOf (r .ticket) in
-    (writeOf f (length out) ≡ Length (length s)) × (outputOf f out ≡ s ++ drop (length s) out)
+SameBytes s r = r .answer ≡ Read → (asWritten s ≡ true) ↔ WrittenAs (fieldsOf (r .ticket)) s

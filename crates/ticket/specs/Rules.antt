@@ -1,17 +1,15 @@
 -- What must hold of a ticket's fields for it to be read, stated without order or computation (document 01, "The
--- ticket", and causes 3 to 7; document 02, e, and its 29).
+-- ticket", and causes 3 to 7; document 02, e, and its 29). What must hold of names, which no field has, stands where
+-- they may stand: `Spells`.
 -- Assumes nothing.
 use Prim.Native.Nat.{ℕ, _+_, _≤_, _<_}
 use mathlib.Core.Path.{_≡_}
 use mathlib.Core.Logic.{_↔_}
 use mathlib.Core.List.{List, [], _∷_}
 use Rattle.commands.specs.Every.{Every}
-use Rattle.commands.specs.Number.{digits}
 use Rattle.commands.specs.declared.header.Window.{Window}
 use Rattle.commands.specs.declared.command.Claim.{Claim}
 use Rattle.commands.specs.declared.header.Header.{Header}
-use Rattle.ticket.specs.declared.fields.Name.{Name}
-use Rattle.ticket.specs.declared.fields.Name.the-variants.{Absent, Text}
 use Rattle.ticket.specs.declared.fields.Mark.{Mark}
 use Rattle.ticket.specs.Fields.{Fields, read}
 use Rattle.ticket.specs.Read.{readOf}
@@ -51,15 +49,9 @@ pub record ClaimRules (k : Claim) : Type 0 where
   pub depth-range : k .depth .0 ≤ 1022
   pub need-range : k .need .0 ≤ 1022
 
--- each byte of a text is $20 to $7E
-pub data NameRule : Name → Type 0 where
-  absent : NameRule Absent
-  text : {t : ℕ} → Every (Between 0x20 0x7e) (digits 8 t) → NameRule (Text t)
-
 pub record MarkRules (h : Header) (m : Mark) : Type 0 where
   pub claimed : ClaimRules (m .claim)
   pub inside : In (h .code) (m .address)
-  pub named : NameRule (m .name)
 
 -- marks in rising address, none equal
 pub data Rising : List Mark → Type 0 where

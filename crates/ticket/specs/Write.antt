@@ -1,6 +1,6 @@
 -- The bytes of a ticket, and what the writer answers: 3 to 7 and 29 on the fields first, with the offset that the
 -- command would have, then 24 with the bytes needed (document 01, "The ticket", "Where a ticket stops"). The writer
--- always writes home (document 02, e).
+-- always writes home (document 02, e), and no name (document 02, i).
 -- Assumes nothing.
 use Prim.Native.Nat.{ℕ}
 use mathlib.Core.Bool.{cond}
@@ -15,24 +15,17 @@ use Rattle.commands.specs.Header.{headerCommands}
 use Rattle.commands.specs.Bytes.{encodeOf}
 use Rattle.commands.specs.Progress.{initialProgress}
 use Rattle.commands.specs.Admit.{thenOf}
-use Rattle.ticket.specs.declared.fields.Name.{Name}
-use Rattle.ticket.specs.declared.fields.Name.the-variants.{Absent, Text}
 use Rattle.ticket.specs.declared.fields.Mark.{Mark}
 use Rattle.ticket.specs.declared.answer.Written.{Written}
 use Rattle.ticket.specs.declared.answer.Written.the-variants as Written
 use Rattle.ticket.specs.Fields.{Fields}
 
-abbrev pub nameCommands : ℕ → Name → List Command
-nameCommands a Absent = []
-nameCommands a (Text t) = Command.Name a t ∷ []
-
--- a mark, and its name at once after it
-abbrev pub commandsAt : Mark → List Command
-commandsAt m = Command.Mark (m .address) (m .claim) ∷ nameCommands (m .address) (m .name)
+abbrev pub markCommand : Mark → Command
+markCommand m = Command.Mark (m .address) (m .claim)
 
 abbrev pub markCommands : List Mark → List Command
 markCommands [] = []
-markCommands (m ∷ ms) = commandsAt m ++ markCommands ms
+markCommands (m ∷ ms) = markCommand m ∷ markCommands ms
 
 -- the header's commands, the marks', the end
 unfoldable pub commandsOf : Fields → List Command

@@ -6,16 +6,9 @@ use commands::header::Header;
 use registers::Cycles;
 use registers::StackBytes;
 
-// A name's text is eight bytes as one number, the first byte highest.
-pub enum Name {
-    Absent,
-    Text(u64),
-}
-
 pub struct Mark {
     pub address: u16,
     pub claim: Claim,
-    pub name: Name,
 }
 
 // The first `count` marks are the ticket's, in rising address; `read` leaves the others blank.
@@ -35,6 +28,5 @@ pub fn blank() -> Mark
             depth: StackBytes(0),
             need: StackBytes(0),
         },
-        name: Name::Absent,
     }
 }

@@ -7,6 +7,7 @@ ghost use Rattle.ticket.specs.Write.{bytesOf, checkOf, writeOf, outputOf
 ghost use Rattle.ticket.specs.Rules.{ReadByTheRules};
 ghost use Rattle.ticket.specs.Fields.{fieldsOf, readingOf};
 ghost use Rattle.ticket.specs.RoundTrip.{answered, SameBytes};
+ghost use Rattle.ticket.specs.Names.{NamesIgnored};
 use crate::answer::ReadAnswer;
 use crate::answer::Reading;
 use crate::answer::Written;
@@ -29,12 +30,14 @@ pub mod fields; // the ticket and its marks
 mod reader; // a command at a time
 mod writer; // checks first, then the bytes
 
-// The ticket that some bytes are, or the first failure in file order. Written again, one that carries home has the same
-// bytes; one without gains home $0000.
+// The ticket that some bytes are, or the first failure in file order. Names are checked and dropped: taken out of the
+// bytes, they change nothing of what is read. Written again, a ticket that carries home and no name has the same bytes;
+// one without home gains home $0000, and one with names loses them.
 pub fn read(bytes: &[u8]) -> Reading
     ensures { λ r. ⌜ (r ≡ readingOf (readOf (now (bytes .entry))))
         × ReadByTheRules (now (bytes .entry))
-        × SameBytes (now (bytes .entry)) r ⌝ }
+        × SameBytes (now (bytes .entry)) r
+        × NamesIgnored (now (bytes .entry)) ⌝ }
 {
     let mut marks = [blank(); 4096];
     let mut p = initial();

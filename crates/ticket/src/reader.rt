@@ -10,7 +10,6 @@ ghost use Rattle.ticket.specs.Read.{nextCommandOf};
 use crate::answer::ReadAnswer;
 use crate::answer::Reading;
 use crate::fields::Mark;
-use crate::fields::Name;
 use crate::fields::Ticket;
 use crate::fields::blank;
 use answers::Refusal;
@@ -52,25 +51,14 @@ pub fn latest_index(count: u16) -> usize
     if count == 0 { 0 } else { (count as usize) - 1 }
 }
 
-// The latest mark after a command: that of a mark, the same with its name, or the same.
+// The latest mark after a command: a mark's own, else the same. A name is dropped.
 pub fn entered(m: Mark, c: Command) -> Mark
     ensures { λ r. ⌜ r ≡ enteredOf m c ⌝ }
 {
     match c {
         Command::Header(_) => m,
-        Command::Mark(address, claim) => Mark {
-            address,
-            claim,
-            name: Name::Absent,
-        },
-        Command::Name(_, t) => {
-            let claim = m.claim;
-            Mark {
-                address: m.address,
-                claim,
-                name: Name::Text(t),
-            }
-        }
+        Command::Mark(address, claim) => Mark { address, claim },
+        Command::Name(_, _) => m,
         Command::End => m,
     }
 }

@@ -1,17 +1,16 @@
 // The two passes of writing: the checks, then the bytes. Both go through the ticket's commands in file order. An inner
 // module of `write`, which tests between the two that there is room for the bytes.
 ghost use mathlib.Core.Path.{_≡_};
-ghost use Prim.Native.Nat.{_+_, _≤_};
+ghost use Prim.Native.Nat.{_≤_};
 ghost use lib.ListN.{length};
-ghost use Rattle.commands.specs.inner.Sound.{SoundSoFar};
+ghost use Rattle.commands.specs.Fits.{Fits};
 ghost use Rattle.commands.specs.Header.{headerCommands};
 ghost use Rattle.commands.specs.Progress.{initialProgress};
 ghost use Rattle.ticket.specs.Fields.{fieldsOf, markIndex};
-ghost use Rattle.ticket.specs.Write.{commandsAt, allThen, encodeAll, bytesOf, checkOf};
+ghost use Rattle.ticket.specs.Write.{markCommand, allThen, encodeAll, bytesOf, checkOf};
 ghost use Rattle.lists.specs.Splice.{spliced};
 ghost use Rattle.ticket.specs.RoundTrip.{AllFit, FitsFields};
 use crate::fields::Mark;
-use crate::fields::Name;
 use crate::fields::Ticket;
 use commands::admit::Admitted;
 use commands::admit::then;
@@ -42,21 +41,15 @@ fn header_checked(h: Header) -> Admitted
     a
 }
 
-fn mark_checked(a: Admitted, m: Mark) -> Admitted
-    requires { ⌜ SoundSoFar a ⌝ }
-    ensures { λ r. ⌜ (r ≡ allThen a (commandsAt m)) × AllFit (commandsAt m) ⌝ }
+// The command of a mark. That every number fits its command's bytes is what the types say.
+fn mark_command(m: Mark) -> Command
+    ensures { λ r. ⌜ (r ≡ markCommand m) × Fits r ⌝ }
 {
     let claim = m.claim;
-    let name = m.name;
-    let b = then(a, Command::Mark(m.address, claim));
-    match name {
-        Name::Absent => b,
-        Name::Text(t) => then(b, Command::Name(m.address, t)),
-    }
+    Command::Mark(m.address, claim)
 }
 
-// Document 01's 3 to 7 and document 02's 29 on the fields, with the offset that the command would have. That every
-// number fits its command's bytes is what the types say.
+// Document 01's 3 to 7 and document 02's 29 on the fields, with the offset that the command would have.
 pub fn check(t: Ticket) -> Admitted
     ensures { λ r. ⌜ (r ≡ checkOf (fieldsOf t)) × FitsFields (fieldsOf t) ⌝ }
 {
@@ -68,7 +61,7 @@ pub fn check(t: Ticket) -> Admitted
     while i < count {
         let j = mark_index(i);
         let m = marks[j];
-        a = mark_checked(a, m);
+        a = then(a, mark_command(m));
         i += 1;
     }
     then(a, Command::End)
@@ -88,20 +81,6 @@ fn put_header(h: Header, out: &mut [u8]) -> usize
     at
 }
 
-fn put_mark(m: Mark, out: &mut [u8], at: usize) -> usize
-    requires { ⌜ at + length (encodeAll (commandsAt m)) ≤ length (now out) ⌝ }
-    ensures { λ r. ⌜ (now (out .exit) ≡ spliced (now (out .entry)) at (encodeAll (commandsAt m)))
-        × (r ≡ at + length (encodeAll (commandsAt m))) ⌝ }
-{
-    let claim = m.claim;
-    let name = m.name;
-    let next = put_command(Command::Mark(m.address, claim), out, at);
-    match name {
-        Name::Absent => next,
-        Name::Text(t) => put_command(Command::Name(m.address, t), out, next),
-    }
-}
-
 pub fn put(t: Ticket, out: &mut [u8])
     requires { ⌜ length (bytesOf (fieldsOf t)) ≤ length (now out) ⌝ }
     ensures { λ _. ⌜ now (out .exit) ≡ spliced (now (out .entry)) 0 (bytesOf (fieldsOf t)) ⌝ }
@@ -114,7 +93,7 @@ pub fn put(t: Ticket, out: &mut [u8])
     while i < count {
         let j = mark_index(i);
         let m = marks[j];
-        at = put_mark(m, out, at);
+        at = put_command(mark_command(m), out, at);
         i += 1;
     }
     put_command(Command::End, out, at);

@@ -1,8 +1,7 @@
 // Tickets given to the writer as fields, one to a line, and what it answers. A line has, in hexadecimal and each at its
-// place: = and the ticket to begin with (H with two marks, the first with a name, which takes 59 bytes, or L with 4,096
-// marks and their names); the room that the output has; the three windows, the entry, the limit and home; the number of
-// marks; then an index and the mark that goes there, its address, cost, depth and need, and N with a name or - without.
-// The rest of the line says what is altered.
+// place: = and the ticket to begin with (H with two marks, which takes 48 bytes, or L with 4,096 marks, which takes
+// 45,082); the room that the output has; the three windows, the entry, the limit and home; the number of marks; then an
+// index and the mark that goes there, its address, cost, depth and need. The rest of the line says what is altered.
 use crate::build::build;
 use crate::build::byte_at;
 use crate::build::word;
@@ -18,7 +17,6 @@ use registers::StackBytes;
 use std::num::wrapping_add_usize;
 use ticket::answer::Written;
 use ticket::fields::Mark;
-use ticket::fields::Name;
 use ticket::fields::Ticket;
 use ticket::read;
 use ticket::write;
@@ -34,9 +32,9 @@ fn ticket(s: &[u8]) -> Ticket {
 
 fn base_ticket(b: u8) -> Ticket {
     if b == b'L' {
-        return ticket(b"L Q1000 1000 00");
+        return ticket(b"L R1000 1000 00");
     }
-    ticket(b"H M8000 N8000 M8001 00")
+    ticket(b"H M8000 M8001 00")
 }
 
 fn long(s: &[u8], i: usize) -> u32 {
@@ -64,13 +62,6 @@ fn header(s: &[u8]) -> Header {
     }
 }
 
-fn name(s: &[u8]) -> Name {
-    if byte_at(s, 95) == b'N' {
-        return Name::Text((long(s, 97) as u64) * 4294967296 + (long(s, 105) as u64));
-    }
-    Name::Absent
-}
-
 fn mark(s: &[u8]) -> Mark {
     let claim = Claim {
         cost: Cycles(long(s, 76)),
@@ -80,7 +71,6 @@ fn mark(s: &[u8]) -> Mark {
     Mark {
         address: word(s, 71),
         claim,
-        name: name(s),
     }
 }
 
@@ -136,10 +126,10 @@ fn write_in(t: Ticket, out: &mut [u8], room: usize) -> Written {
 
 pub fn wrote(s: &[u8]) {
     let mut out = [0xaau8; 90200];
-    if s.len() < 114 {
+    if s.len() < 95 {
         return;
     }
-    text(&s[114..]);
+    text(&s[95..]);
     text(b" -> ");
     let w = write_in(altered(s), &mut out, long(s, 3) as usize);
     if kept(answer(w), &out) {

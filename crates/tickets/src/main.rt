@@ -1,10 +1,11 @@
 // Tickets read and written: each as a short text, and what is answered. The file stdout has the answers of document 01,
-// and document 02's of home, worked out by hand.
+// and document 02's of home and of names, worked out by hand.
 use output::text;
 
 mod build; // a ticket's bytes from a short text
 mod fields; // tickets given to the writer as fields
 mod lines; // the lines of a file
+mod plain; // what the writer makes of a ticket, without it
 mod print; // a refusal as text
 mod show; // what is answered
 

@@ -1,7 +1,9 @@
-// A ticket as a text, and what reading it answers; where it is read it is written again: the same where it has $07,
-// else with home $0000 added, which it means.
+// A ticket as a text, and what reading it answers; where it is read it is written again: the same where it has $07 and
+// no name; else with home $0000 added, which it means, without its names, which are dropped, or both.
 use crate::build::build;
-use crate::build::put_all;
+use crate::plain::has_home;
+use crate::plain::with_home;
+use crate::plain::without_names;
 use crate::print::refusal;
 use check::same;
 use output::decimal;
@@ -32,25 +34,11 @@ fn again(t: Ticket, bytes: &[u8]) -> bool {
     }
 }
 
-// Whether $07 follows the 22 bytes of the commands up to the entry.
-fn has_home(bytes: &[u8]) -> bool {
-    if bytes.len() < 23 {
-        return false;
-    }
-    bytes[22] == 7
-}
-
-// A ticket without $07, and $07 with $0000 put where it belongs: how many bytes.
-fn with_home(bytes: &[u8], out: &mut [u8]) -> usize {
-    if bytes.len() < 22 {
-        return 0;
-    }
-    let entry = put_all(out, 0, &bytes[0..22]);
-    let home = put_all(out, entry, b"\x07\x00\x00");
-    put_all(out, home, &bytes[22..])
-}
-
+// The same of bytes that have home, and of bytes that do not, which gain it.
 fn again_with_home(t: Ticket, bytes: &[u8]) -> bool {
+    if has_home(bytes) {
+        return again(t, bytes);
+    }
     let mut longer = [0u8; 90200];
     let n = with_home(bytes, &mut longer);
     if 90200 < n {
@@ -59,23 +47,33 @@ fn again_with_home(t: Ticket, bytes: &[u8]) -> bool {
     again(t, &longer[0..n])
 }
 
-fn outcome(right: bool, said: &[u8]) {
-    if right {
-        text(said);
-    } else {
-        text(b"WRITTEN AGAIN OTHERWISE");
+// What was written again gained and lost.
+fn changes(home: bool, names: bool) {
+    if home {
+        text(b" with 07 0000 added");
+    }
+    if home & names {
+        text(b",");
+    }
+    if names {
+        text(b" without its names");
+    }
+    if !(home | names) {
+        text(b" the same");
     }
 }
 
 fn rewritten(t: Ticket, bytes: &[u8]) {
-    if has_home(bytes) {
-        outcome(again(t, bytes), b"written again the same");
-    } else {
-        outcome(
-            again_with_home(t, bytes),
-            b"written again with 07 0000 added",
-        );
+    let mut unnamed = [0u8; 90200];
+    let n = without_names(bytes, &mut unnamed);
+    if n <= 90200 {
+        if again_with_home(t, &unnamed[0..n]) {
+            text(b"written again");
+            changes(!has_home(bytes), n < bytes.len());
+            return;
+        }
     }
+    text(b"WRITTEN AGAIN OTHERWISE");
 }
 
 fn answered(bytes: &[u8]) {

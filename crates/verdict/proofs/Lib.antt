@@ -8,3 +8,4 @@ pub mod Reading
 pub mod Home
 pub mod FilePromised
 pub mod OldTicket
+pub mod Names

@@ -3,3 +3,4 @@ pub mod Start
 pub mod Certification
 pub mod Routine
 pub mod Records
+pub mod Names

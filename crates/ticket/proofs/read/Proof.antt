@@ -13,10 +13,11 @@ use Rattle.commands.proofs.Digits.{all-bytes}
 use Rattle.ticket.specs.declared.answer.Reading.{Reading}
 use Rattle.ticket.specs.Fields.{readingOf}
 use Rattle.ticket.specs.Read.{readOf}
+use Rattle.ticket.specs.Names.{NamesIgnored}
 use Rattle.ticket.specs.Rules.{ReadByTheRules}
 use Rattle.ticket.specs.RoundTrip.{SameBytes}
 use Rattle.ticket.proofs.Accepts.{by-the-rules}
-use Rattle.ticket.proofs.WrittenRead.{same-bytes}
+use Rattle.ticket.proofs.Names.{names-ignored, same-bytes}
 use Rattle.ticket.proofs.ReadLoop.{ReadState, reached-start, reached-next, next-bounds, reading-refused}
 use Rattle.ticket.proofs.ReadLoop.{reading-long, reading-done}
 use Rattle.ticket.proofs.read.Statement.{statement}
@@ -28,12 +29,12 @@ Inv-loop bytes marks₀ p₀ marks p = ReadState bytes marks p
 abbrev μ-loop : tie.MeasureT-loop
 μ-loop bytes marks₀ p₀ marks p = length bytes - p .at
 
--- the input is a list of bytes, so both laws hold of it
+-- the input is a list of bytes, so the laws hold of it
 promised : (c : tie.After-shared-slice-known Inv-loop μ-loop) (r : Reading) → let s = c .before .args .bytes .now in
-    r ≡ readingOf (readOf s) → (r ≡ readingOf (readOf s)) × ReadByTheRules s × SameBytes s r
+    r ≡ readingOf (readOf s) → (r ≡ readingOf (readOf s)) × ReadByTheRules s × SameBytes s r × NamesIgnored s
 promised c r e =
     let bytes = all-bytes _ (λ i. c .shared-slice-known .given i .fits) in
-    (e, by-the-rules _ bytes, same-bytes _ bytes r e)
+    (e, by-the-rules _ bytes, same-bytes _ bytes r e, names-ignored _ bytes)
 
 next-command-requires : tie.Need-next-command-requires Inv-loop μ-loop
 next-command-requires c κs = let h = c .before .before .loop .inv in (h .kept .sound, h .inside)

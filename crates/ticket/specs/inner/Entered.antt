@@ -3,11 +3,10 @@
 use Rattle.commands.specs.declared.command.Command.{Command}
 use Rattle.commands.specs.declared.command.Command.the-variants as Command
 use Rattle.ticket.specs.declared.fields.Mark.{Mark}
-use Rattle.ticket.specs.Fields.{unnamed, named}
 
 -- as `marksWith` of the latest mark alone
 abbrev pub enteredOf : Mark → Command → Mark
 enteredOf m (Command.Header c) = m
-enteredOf m (Command.Mark a k) = unnamed a k
-enteredOf m (Command.Name a t) = named m t
+enteredOf m (Command.Mark a k) = record { address = a; claim = k }
+enteredOf m (Command.Name a t) = m
 enteredOf m Command.End = m

@@ -14,5 +14,5 @@ entered-spec =
     (search needs)
     (λ c. simp (c .enum-told .given .1))
     (λ c. simp (c .before .c .given .1))
-    (λ c. simp (c .before .before .c2 .given .1))
-    (λ c. simp (c .enum-told2 .given .1)))
+    (λ c. simp (c .enum-told2 .given .1))
+    (λ c. simp (c .enum-told3 .given .1)))

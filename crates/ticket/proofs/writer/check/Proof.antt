@@ -10,10 +10,11 @@ use Rattle.commands.specs.declared.admit.Admitted.the-variants.{Next}
 use Rattle.commands.specs.Every.{none}
 use Rattle.commands.specs.Progress.{initialProgress}
 use Rattle.commands.specs.inner.Sound.{SoundSoFar, sound}
-use Rattle.commands.proofs.Sound.{sound-start}
+use Rattle.commands.specs.Admit.{thenOf}
+use Rattle.commands.proofs.Sound.{sound-start, sound-then}
 use Rattle.ticket.specs.Fields.{blankMark, markIndex, listed, fieldsOf}
 use Rattle.commands.specs.Header.{headerCommands}
-use Rattle.ticket.specs.Write.{commandsAt, markCommands, allThen}
+use Rattle.ticket.specs.Write.{markCommand, markCommands, allThen}
 use Rattle.ticket.specs.RoundTrip.{AllFit}
 use Rattle.ticket.proofs.Fitting.{fit-listed, fit-ticket}
 use Rattle.ticket.proofs.MarkIndex.{mark-index-below}
@@ -44,24 +45,26 @@ array-copy-out-m c = rw (c .mark-index .ensures) (mark-index-below (c .before .b
 mul-m : tie.Need-mul-m Inv-loop μ-loop
 mul-m c = record { fits = omega (arith, array-copy-out-m c) }
 
-mark-checked-requires : tie.Need-mark-checked-requires Inv-loop μ-loop
-mark-checked-requires c κs = c .before .before .before .loop .inv .0
+then-requires : tie.Need-then-requires Inv-loop μ-loop
+then-requires c κs = c .before .before .before .before .loop .inv .0
 
 loop-again : tie.Need-loop-again Inv-loop μ-loop
 loop-again c =
-    let l = c .before .before .before .before .loop in
-    let ms = c .before .before .before .before .before .before .before .before .before .args .t .marks in
+    let l = c .before .before .before .before .before .loop in
+    let ms = c .before .before .before .before .before .before .before .before .before .before .args .t .marks in
     let m = getD ms (markIndex (l .i)) blankMark in
-    let next : c .mark-checked .result ≡ allThen (l .a) (commandsAt m) =
-    simp (c .mark-checked .ensures .0, c .before .before .mark-index .ensures) in (
-      rw next (sound-all (l .a) (commandsAt m) (l .inv .0)),
+    let place = c .before .before .before .mark-index .ensures in
+    let command : c .before .mark-command .result ≡ markCommand m =
+    simp (c .before .mark-command .ensures .0, place) in
+    let next : c .then .result ≡ thenOf (l .a) (markCommand m) = simp (c .then .ensures, command) in (
+      rw next (sound-then (l .a) (markCommand m) (l .inv .0)),
       rw (next, all-listed, ← l .inv .1),
-      fit-listed ms (l .i) (l .inv .2) (rw (← c .before .before .mark-index .ensures) (c .mark-checked .ensures .1)),
+      fit-listed ms (l .i) (l .inv .2) (rw command at (c .before .mark-command .ensures .1)),
       omega arith,
     )
 
-then-requires : tie.Need-then-requires Inv-loop μ-loop
-then-requires c κs = c .before .loop .inv .0
+then-requires-2 : tie.Need-then-requires-2 Inv-loop μ-loop
+then-requires-2 c κs = c .before .loop .inv .0
 
 returns : tie.Need-returns Inv-loop μ-loop
 unfolding fieldsOf
@@ -70,7 +73,7 @@ returns c =
     let t = c .before .before .before .before .before .before .before .args .t in
     let head = c .before .before .before .header-checked .ensures in
     let all : l .i ≡ t .count = omega arith in (
-      simp (c .then .ensures, all-checked, l .inv .1, all, head .0),
+      simp (c .then2 .ensures, all-checked, l .inv .1, all, head .0),
       fit-ticket (fieldsOf t) (head .1) (rw (← all) (l .inv .2)),
     )
 
@@ -86,9 +89,10 @@ check-spec =
     (search needs)
     mul-m
     array-copy-out-m
-    mark-checked-requires
+    (search needs)
+    then-requires
     (λ c. omega arith)
     (λ c. omega arith)
     loop-again
-    then-requires
+    then-requires-2
     returns)

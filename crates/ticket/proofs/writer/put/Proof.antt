@@ -43,15 +43,16 @@ mul-m c = omega (arith, mark-index-below (c .before .before .loop .i))
 array-copy-out-m : tie.Need-array-copy-out-m Inv-loop μ-loop
 array-copy-out-m c = omega (arith, mark-index-below (c .before .before .loop .i))
 
-put-mark-requires : tie.Need-put-mark-requires Inv-loop μ-loop
-put-mark-requires c κs =
-    omega (
+put-command-requires : tie.Need-put-command-requires Inv-loop μ-loop
+unfolding widthOf
+put-command-requires c κs =
+    rw (c .before .mark-command .ensures .0) (omega (
       arith,
       mark-room
           (c .before .before .before .before .before .before .before .before .before .before .before .before .before
-          .args .t) (c .before .before .before .before .loop .i) (c .before .before .mark-index .ensures) (c
-          .before .before .before .loop-test .taken),
-    )
+          .before .args .t) (c .before .before .before .before .before .loop .i)
+          (c .before .before .before .mark-index .ensures) (c .before .before .before .before .loop-test .taken),
+    ))
 
 add-i : tie.Need-add-i Inv-loop μ-loop
 add-i c = omega arith
@@ -61,21 +62,22 @@ loop-less c = omega arith
 
 loop-again : tie.Need-loop-again Inv-loop μ-loop
 loop-again c =
-    let placed = c .before .before .before .before .before in
-    let at-loop = placed .before .before in
+    let made = c .before .before .before .before in
+    let indexed = made .before .before in
+    let at-loop = indexed .before .before in
     let l = at-loop .loop in
     let t = at-loop .before .before .before .before .before .before .before .before .before .args .t in
-    let e = placed .mark-index .ensures in
-    let room = mark-room t (l .i) e (placed .before .loop-test .taken) in (
-      rw (add-one, marks-more (t .marks) (l .i) e) (placed-next (l .inv .0) (omega arith) _
-          (c .before .before .put-mark .ensures)),
+    let e = indexed .mark-index .ensures in
+    let room = mark-room t (l .i) e (indexed .before .loop-test .taken) in
+    let put = rw (made .mark-command .ensures .0) at (c .before .before .put-command .ensures) in (
+      rw (add-one, marks-more (t .marks) (l .i) e) (placed-command (l .inv .0) (omega arith) _ put),
       omega arith,
       omega arith,
     )
 
-put-command-requires : tie.Need-put-command-requires Inv-loop μ-loop
+put-command-requires-2 : tie.Need-put-command-requires-2 Inv-loop μ-loop
 unfolding widthOf
-put-command-requires c κs =
+put-command-requires-2 c κs =
     omega (
       arith,
       end-room
@@ -99,7 +101,7 @@ returns c =
     placed-next {m = head .result} (placed-none (start .args .out .now) 0) (omega arith)
     (encodeAll (headerCommands (t .header))) (head .ensures .0, omega arith) in
     let p₂ = placed-next p₁ (omega arith) (marksBytes (t .marks) (l .i)) (l .inv .0 .bytes, l .inv .0 .end) in
-    let p₃ = placed-command p₂ (omega arith) Command.End (c .before .before .put-command .ensures) in
+    let p₃ = placed-command p₂ (omega arith) Command.End (c .before .before .put-command2 .ensures) in
     let all : l .i ≡ t .count = omega arith in
     rw (ticket-parts t, ← all) (p₃ .bytes)
 
@@ -115,10 +117,11 @@ put-spec =
     mark-index-requires
     mul-m
     array-copy-out-m
-    put-mark-requires
+    (search needs)
+    put-command-requires
     add-i
     loop-less
     loop-again
-    put-command-requires
+    put-command-requires-2
     same-length
     returns)
