@@ -901,20 +901,8 @@ static void order_of_the_whole(void)
     refused("19 before 20", p_under(1, 4, 0x8000, 25), 19, 0x8000);
 }
 
-/* 4,095 NOPs and an RTS, each marked, with P's windows but for the code's. These are the tickets that tests/records and
- * tests/examples give the checking program, which takes no file with all their names. */
-static void largest_of_programs(struct judged *r)
-{
-    static const uint16_t starts[] = {0x0200, 0xf000, 0x8000};
-    static const char *const names[] = {"4,096 marks from $0200", "4,096 marks from $F000", "4,096 marks from $8000"};
-
-    for (size_t i = 0; i < sizeof starts / sizeof starts[0]; i++) {
-        moved(r, starts[i])->data = (struct window){0x0040, 1};
-        accepted(names[i], r, starts[i], 8195, 2);
-    }
-}
-
-/* The code window may end at $FFFF. With home, and judged with names, the longest ticket; host_stack.c has it too. */
+/* 4,095 NOPs and an RTS, each marked; the code window may end at $FFFF. With home, and judged with names, the longest
+ * ticket. */
 static void largest(void)
 {
     static char nops[4096];
@@ -927,8 +915,8 @@ static void largest(void)
     r->count = 4096;
     for (uint16_t i = 0; i < 4096; i++)
         set_mark(r, i, (uint16_t)(0x8000 + i), (4095u - i) * 2 + 5, 0, 0);
-    largest_of_programs(r);
-    accepted("4,096 marks and home", with_home(r, 0xffff), 0x8000, 8195, 2);
+    accepted("4,096 marks", r, 0x8000, 8195, 2);
+    accepted("4,096 marks and home", with_home(r, 0x7fff), 0x8000, 8195, 2);
     refused("4,096 marks and home at the last", with_home(r, 0x8fff), 29, 22);
     r->says_home = false;
     r->home = 0;

@@ -1,8 +1,7 @@
-// A file judged with three buffers: of the code window's length, of one byte less and of one byte more; and so again
-// with a name at each mark of the ticket.
+// A file judged with three buffers: of the code window's length, of one byte less and of one byte more.
 use crate::bytes::{byte_at, put_file, put_image};
 use crate::fields::{field_end, next_field};
-use crate::tickets::{room, ticket, with_names};
+use crate::tickets::{room, ticket};
 use answers::Verdict;
 use check::same;
 use output::{decimal, text};
@@ -67,11 +66,6 @@ fn judged_three(letter: u8, file: &[u8], expected: &[u8], image: &[u8]) -> bool 
     right & less & judged(letter, file, room + 1, b"REFUSE 9 0", &kept)
 }
 
-fn judged_twice(letter: u8, file: &[u8], expected: &[u8], image: &[u8]) -> bool {
-    let right = judged_three(letter, file, expected, image);
-    right & judged_three(with_names(letter), file, expected, image)
-}
-
 // A line of the text: the answer; the ticket's letter; the image in the buffer afterwards, empty where it is not
 // written; the file; why. Whether all is as expected.
 pub fn case(s: &[u8]) -> bool {
@@ -90,7 +84,7 @@ pub fn case(s: &[u8]) -> bool {
     let n = put_file(&s[file..file_end], &mut bytes);
     let mut right = false;
     if n <= 65536 {
-        right = judged_twice(
+        right = judged_three(
             byte_at(s, letter),
             &bytes[0..n],
             &s[0..answer_end],

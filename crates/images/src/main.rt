@@ -1,5 +1,5 @@
-// S-record files judged with a ticket, without names and with a name at each mark: each as a line of images.txt, with
-// its answer and its image worked out by hand from document 02, a.
+// S-record files judged with a ticket: each as a line of images.txt, with its answer and its image worked out by hand
+// from document 02, a.
 use output::{decimal, text};
 
 mod bytes; // a file's and an image's bytes from a text
@@ -19,7 +19,7 @@ fn main() {
     libc::close(fd);
     let end = lines::lines(&file[0..n]);
     decimal(end.cases as u64);
-    text(b" files, each judged with three buffers, without names and with them: ");
+    text(b" files, each judged with three buffers: ");
     decimal(end.wrong as u64);
     text(b" wrong\n");
 }

@@ -16,23 +16,12 @@ fn put_word(out: &mut [u8], at: usize, v: u16) -> usize {
     put(out, next, (v % 256) as u8)
 }
 
-fn put_name(out: &mut [u8], at: usize, address: u16) -> usize {
-    let a = put(out, at, 6);
-    let b = put_word(out, a, address);
-    put_all(out, b, b"A NAME ~")
-}
-
-// A mark, and if so asked its name.
-fn put_mark(out: &mut [u8], at: usize, address: u16, cost: u8, named: bool) -> usize {
+fn put_mark(out: &mut [u8], at: usize, address: u16, cost: u8) -> usize {
     let a = put(out, at, 5);
     let b = put_word(out, a, address);
     let c = put_all(out, b, b"\x00\x00\x00");
     let d = put(out, c, cost);
-    let e = put_all(out, d, b"\x00\x00\x00\x00");
-    if named {
-        return put_name(out, e, address);
-    }
-    e
+    put_all(out, d, b"\x00\x00\x00\x00")
 }
 
 // A header with four bytes of code, where the routine begins with the first.
@@ -51,42 +40,27 @@ fn put_header(out: &mut [u8], start: u16, limit: u8) -> usize {
 
 // For NOP, NOP, NOP and RTS, which take 11 cycles from the first and 9 from the second: the limit, and the cost that
 // the second's mark says.
-fn put_ticket(out: &mut [u8], start: u16, limit: u8, second: u8, named: bool) -> usize {
+fn put_ticket(out: &mut [u8], start: u16, limit: u8, second: u8) -> usize {
     let a = put_header(out, start, limit);
-    let b = put_mark(out, a, start, 11, named);
-    let c = put_mark(out, b, wrapping_add_u16(start, 1), second, named);
-    let d = put_mark(out, c, wrapping_add_u16(start, 2), 7, named);
-    let e = put_mark(out, d, wrapping_add_u16(start, 3), 5, named);
+    let b = put_mark(out, a, start, 11);
+    let c = put_mark(out, b, wrapping_add_u16(start, 1), second);
+    let d = put_mark(out, c, wrapping_add_u16(start, 2), 7);
+    let e = put_mark(out, d, wrapping_add_u16(start, 3), 5);
     put(out, e, 0)
 }
 
 fn put_more(out: &mut [u8]) -> usize {
-    let n = put_ticket(out, 0x8000, 11, 9, false);
+    let n = put_ticket(out, 0x8000, 11, 9);
     put(out, n, 0)
-}
-
-// The letter of the same ticket with a name at each mark. One that is refused at an offset, or has no mark, is its own.
-pub fn with_names(letter: u8) -> u8 {
-    match letter {
-        b'P' => b'p',
-        b'F' => b'f',
-        b'C' => b'c',
-        b'T' => b't',
-        _ => letter,
-    }
 }
 
 // Puts the ticket of a letter at the beginning of the output, and answers its length.
 pub fn ticket(letter: u8, out: &mut [u8]) -> usize {
     match letter {
-        b'P' => put_ticket(out, 0x8000, 11, 9, false),
-        b'p' => put_ticket(out, 0x8000, 11, 9, true),
-        b'F' => put_ticket(out, 0xfffc, 11, 9, false), // the code window ends at $FFFF
-        b'f' => put_ticket(out, 0xfffc, 11, 9, true),
-        b'C' => put_ticket(out, 0x8000, 11, 8, false), // 16: the second's cost is too low
-        b'c' => put_ticket(out, 0x8000, 11, 8, true),
-        b'T' => put_ticket(out, 0x8000, 10, 9, false), // 19: the entry's cost is above the limit
-        b't' => put_ticket(out, 0x8000, 10, 9, true),
+        b'P' => put_ticket(out, 0x8000, 11, 9),
+        b'F' => put_ticket(out, 0xfffc, 11, 9), // the code window ends at $FFFF
+        b'C' => put_ticket(out, 0x8000, 11, 8), // 16: the second's cost is too low
+        b'T' => put_ticket(out, 0x8000, 10, 9), // 19: the entry's cost is above the limit
         // 18: the entry is not marked; 4,096 bytes at $1000
         b'L' => put_all(
             out,
