@@ -1,11 +1,13 @@
 // An inner crate: what everybody answers with, document 01's refusals and verdicts, once.
+#![tactic(auto)]
+
 ghost use Rattle.std.specs.Prelude.{◌≡◌};
 
 use registers::{Cycles, StackBytes};
 
 // Document 01's number of a cause ("Where a ticket stops") and its place: an offset of the ticket, an address, 24's
 // bytes needed, or 0.
-#[derive(Drop)]
+#[derive(Clone, Copy)]
 pub struct Refusal {
     pub number: u8,
     pub place: u32,
@@ -18,7 +20,7 @@ pub fn refuse(number: u8, place: u32) -> Refusal
 }
 
 // Acceptance answers the entry, its cost (the certified cycles) and its need + 2.
-#[derive(Drop)]
+#[derive(Clone, Copy)]
 pub enum Verdict {
     Accept(u16, Cycles, StackBytes),
     Refuse(Refusal),

@@ -4,7 +4,7 @@ ghost use Rattle.arguments.specs.Argument.{starts_with, setting_of, other_of, ar
 
 use crate::number::{Parsed, number};
 
-#[derive(Drop)]
+#[derive(Clone, Copy)]
 pub enum Setting {
     A,
     B,
@@ -14,7 +14,7 @@ pub enum Setting {
     Budget,
 }
 
-#[derive(Drop)]
+#[derive(Clone, Copy)]
 pub enum Argument {
     Set(Setting, u32),
     // the name of a file, after `memory=`

@@ -4,7 +4,7 @@ ghost use Rattle.arguments.specs.Number.{number_of};
 
 use lists::digit::digit;
 
-#[derive(Drop)]
+#[derive(Clone, Copy)]
 pub enum Parsed {
     Number(u32),
     Malformed,

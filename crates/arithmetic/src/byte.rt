@@ -11,7 +11,7 @@ use crate::codes::{overflow, with_h, with_low_bits, with_nzv, with_nzvc};
 use lists::bit::one;
 use opcodes::instruction::{Binary, Unary};
 
-#[derive(Drop)]
+#[derive(Clone, Copy)]
 pub struct ByteResult {
     pub value: u8,
     pub flags: u8,

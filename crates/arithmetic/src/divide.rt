@@ -8,7 +8,7 @@ ghost use Rattle.arithmetic.specs.Divide.{divided, idiv_of, fdiv_of};
 use crate::codes::with_zvc;
 
 // The quotient goes to X, the remainder to D.
-#[derive(Drop)]
+#[derive(Clone, Copy)]
 pub struct Divided {
     pub quotient: u16,
     pub remainder: u16,

@@ -7,7 +7,7 @@ ghost use Rattle.arithmetic.specs.Word.{add16_of, sub16_of, logic16_of, shifted1
 use crate::codes::{overflow, with_c, with_low_bits, with_nzv, with_nzvc};
 use registers::word::wrapping_sub;
 
-#[derive(Drop)]
+#[derive(Clone, Copy)]
 pub struct WordResult {
     pub value: u16,
     pub flags: u8,

@@ -69,7 +69,7 @@ fn refused(x: Refusal, unchanged: bool) -> u8 {
     }
 }
 
-#[derive(Drop)]
+#[derive(Clone, Copy)]
 struct Counts {
     done: u32,
     empty: u32,

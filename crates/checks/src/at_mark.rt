@@ -16,7 +16,7 @@ use commands::header::{Window, past};
 
 // Whether the instruction stays inside the code window; and for its first and its second successor, which mark is
 // theirs. Where there is one successor it stands twice, and where no mark is theirs the number is that of all marks.
-#[derive(Drop)]
+#[derive(Clone, Copy)]
 pub struct AtMark {
     pub shape: Shape,
     pub inside: bool,

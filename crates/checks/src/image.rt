@@ -17,7 +17,7 @@ use registers::Cycles;
 use registers::word::wrapping_add;
 
 // A shape, with the size of its instruction in bytes; 0 where there is no instruction.
-#[derive(Drop)]
+#[derive(Clone, Copy)]
 pub struct SizedShape {
     pub shape: Shape,
     pub size: u16,

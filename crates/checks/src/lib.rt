@@ -1,4 +1,6 @@
 // An inner crate: document 01's causes 9 to 20, of a ticket that was read and of its image.
+#![tactic(auto)]
+
 pub mod shape; // what the rules ask of an instruction: successors, bytes pushed and pulled, writes, cycles
 pub mod image; // the shape of the instruction at an address of an image
 mod find; // an address in a rising list

@@ -13,7 +13,7 @@ use registers::Cycles;
 use registers::word::wrapping_add;
 
 // The claim at an address, or none.
-#[derive(Drop)]
+#[derive(Clone, Copy)]
 pub enum Marked {
     Unmarked,
     At(Claim),

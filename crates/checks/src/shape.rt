@@ -9,14 +9,14 @@ use opcodes::instruction::Address;
 use registers::{Cycles, StackBytes};
 
 // The addresses that may come next.
-#[derive(Drop)]
+#[derive(Clone, Copy)]
 pub enum Successors {
     One(u16),
     Two(u16, u16),
 }
 
 // What is stored to at a fixed address: nothing, a byte, or a byte and the one after it.
-#[derive(Drop)]
+#[derive(Clone, Copy)]
 pub enum Writes {
     Nowhere,
     Byte(u16),
@@ -24,7 +24,7 @@ pub enum Writes {
 }
 
 // An instruction that goes on inside its routine.
-#[derive(Drop)]
+#[derive(Clone, Copy)]
 pub struct Ordinary {
     pub next: Successors,
     pub pushed: StackBytes,
@@ -34,14 +34,14 @@ pub struct Ordinary {
 }
 
 // JSR and BSR.
-#[derive(Drop)]
+#[derive(Clone, Copy)]
 pub struct Call {
     pub target: u16,
     pub after: u16, // the following address
     pub cycles: Cycles,
 }
 
-#[derive(Drop)]
+#[derive(Clone, Copy)]
 pub enum Shape {
     Ordinary(Ordinary),
     Call(Call),

@@ -13,7 +13,7 @@ use crate::progress::Progress;
 use crate::row::row_of;
 use answers::Refusal;
 
-#[derive(Drop)]
+#[derive(Clone, Copy)]
 pub enum Admitted {
     Refused(Refusal),
     Next(Progress),

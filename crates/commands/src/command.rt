@@ -9,7 +9,7 @@ use crate::header::Window;
 use registers::{Cycles, StackBytes};
 
 // What a mark says of its address: document 01's cost, depth and need.
-#[derive(Drop)]
+#[derive(Clone, Copy)]
 pub struct Claim {
     pub cost: Cycles,
     pub depth: StackBytes,
@@ -17,7 +17,7 @@ pub struct Claim {
 }
 
 // A command of the header. An entry has its address and the cycle limit, home its address.
-#[derive(Drop)]
+#[derive(Clone, Copy)]
 pub enum HeaderCommand {
     Code(Window),
     Data(Window),
@@ -27,7 +27,7 @@ pub enum HeaderCommand {
 }
 
 // A name has its address and its text, eight bytes as one number.
-#[derive(Drop)]
+#[derive(Clone, Copy)]
 pub enum Command {
     Header(HeaderCommand),
     Mark(u16, Claim),
@@ -36,7 +36,7 @@ pub enum Command {
 }
 
 // The operands of a command, in the order of its row; those that it lacks are 0.
-#[derive(Drop)]
+#[derive(Clone, Copy)]
 pub struct Operands {
     pub first: u64,
     pub second: u64,

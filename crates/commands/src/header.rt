@@ -9,14 +9,14 @@ use crate::command::{Command, HeaderCommand};
 use registers::Cycles;
 
 // The addresses from start on; one of length 0 holds none.
-#[derive(Drop)]
+#[derive(Clone, Copy)]
 pub struct Window {
     pub start: u16,
     pub length: u16,
 }
 
 // What $01 to $04 say, and $07: home is the address at which the routine ends, $0000 where a ticket does not say it.
-#[derive(Drop)]
+#[derive(Clone, Copy)]
 pub struct Header {
     pub code: Window,
     pub data: Window,

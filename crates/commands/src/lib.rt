@@ -1,5 +1,7 @@
 // An inner crate: the commands of a ticket one by one, as values and as bytes, and the causes for which one is refused
 // after those before it (document 01, "The ticket"). The ticket as a whole is read and written in `ticket`.
+#![tactic(auto)]
+
 pub mod header; // windows, and what $01 to $04 and $07 say
 pub mod command; // the commands
 pub mod row; // the table of commands

@@ -8,7 +8,7 @@ use crate::number::number;
 use crate::row::{COMMANDS, TableRow, row_of, size};
 
 // What bytes begin with.
-#[derive(Drop)]
+#[derive(Clone, Copy)]
 pub enum ParsedCommand {
     Unknown, // no command has this byte
     Cut, // no byte is left, or the operands are cut short

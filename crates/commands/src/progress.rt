@@ -5,7 +5,7 @@ ghost use Rattle.commands.specs.Progress.{initial_progress, ended};
 use crate::header::Header;
 use crate::row::HEADER_COMMANDS;
 
-#[derive(Drop)]
+#[derive(Clone, Copy)]
 pub struct Progress {
     pub at: u32, // the offset of the next command
     pub stage: u8, // the next place in the sequence of the header's commands; past it after the end

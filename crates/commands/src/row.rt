@@ -5,7 +5,7 @@ ghost use Rattle.commands.specs.Rows.{command_rows, row_of};
 ghost use Rattle.commands.specs.inner.Table.{code_row, code_size};
 
 // A number of `width` bytes from `least` to `most`, or a text, each byte of which is $20 to $7E.
-#[derive(Drop)]
+#[derive(Clone, Copy)]
 pub struct TableOperand {
     pub width: usize,
     pub least: u64,
@@ -14,14 +14,14 @@ pub struct TableOperand {
 }
 
 // Whether the first two operands are a window's start and length; if so, the least address at which it may start.
-#[derive(Drop)]
+#[derive(Clone, Copy)]
 pub enum WindowStart {
     NoWindow,
     From(u16),
 }
 
 // A command has at most four operands; those that it lacks have no bytes.
-#[derive(Drop)]
+#[derive(Clone, Copy)]
 pub struct TableRow {
     pub stage: u8, // its place in the sequence of the header's commands
     pub window: WindowStart,

@@ -1,5 +1,7 @@
 // Each instruction as a row of a table in Markdown: mnemonic, mode, operand, bytes, length and cycles, and what the
 // verdict's own checks make of it. tools/cycles_page.py sorts the rows for docs/CYCLES.md.
+#![tactic(auto)]
+
 ghost use Rattle.std.specs.Prelude.{◌<◌};
 
 use mode::{columns, operand_bytes};

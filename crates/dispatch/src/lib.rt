@@ -2,6 +2,8 @@
 // instruction with its case as a constant, and a match has fewer than fifty arms, so that the compiler takes each arm
 // into the loop that runs the instructions. `_` stands for no number of a group. tools/opcode_tables.py writes an arm's
 // number, by the name behind it.
+#![tactic(auto)]
+
 ghost use Rattle.std.specs.Prelude.{◌≡◌, true, length, ◌<◌, ◌≤◌};
 ghost use Rattle.opcodes.specs.inner.Numbers.{action_of, mode_of};
 ghost use Rattle.opcodes.specs.inner.Fits.{fits};

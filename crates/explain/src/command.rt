@@ -7,7 +7,7 @@ use commands::parse::{ParsedCommand, parse};
 use output::text;
 
 // A mark's address, or none.
-#[derive(Drop)]
+#[derive(Clone, Copy)]
 enum MarkAddress {
     At(u16),
     Nowhere,

@@ -1,6 +1,8 @@
 // An inner crate: what a person is told of a routine that is refused. Below the line of the checking program: the cause
 // in words, what stands at the place, and what to do. Of what is printed nothing is promised but the proved lines;
 // tests/trace and tests/refusals compare it.
+#![tactic(auto)]
+
 use crate::command::ticket_line;
 use crate::figures::{figures_line, lengths_line};
 use crate::file::file_lines;

@@ -1,4 +1,6 @@
 // An inner crate: whole files in lent buffers, for the programs at the desk.
+#![tactic(auto)]
+
 ghost use Rattle.io.specs.Counts.{IsPrefixLen};
 
 use io::write_all;
@@ -7,7 +9,7 @@ use libc::STDOUT_FILENO;
 pub mod routine; // a routine's two files
 
 // Whether the whole file is in the buffer, whether there is none of that name, and how many bytes were read.
-#[derive(Drop)]
+#[derive(Clone, Copy)]
 pub struct File {
     pub whole: bool,
     pub missing: bool,

@@ -6,7 +6,7 @@ use crate::{File, load, unfit};
 use ticket::read;
 
 // Whether both fit, whether the first is an S-record file, and their lengths.
-#[derive(Drop)]
+#[derive(Clone, Copy)]
 pub struct Routine {
     pub whole: bool,
     pub records: bool,
@@ -14,7 +14,7 @@ pub struct Routine {
     pub ticket: usize,
 }
 
-#[derive(Drop)]
+#[derive(Clone, Copy)]
 struct First {
     records: bool,
     file: File,

@@ -6,7 +6,7 @@ use output::text;
 use std::num::wrapping_add_usize;
 
 // Where the line at hand begins, and how many files were judged, and how many of them wrong.
-#[derive(Drop)]
+#[derive(Clone, Copy)]
 pub struct Progress {
     pub from: usize,
     pub cases: usize,

@@ -1,5 +1,7 @@
 // S-record files judged with a ticket: each as a line of images.txt, with its answer and its image worked out by hand
 // from document 02, a.
+#![tactic(auto)]
+
 use output::{decimal, text};
 
 mod bytes; // a file's and an image's bytes from a text

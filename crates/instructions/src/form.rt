@@ -7,7 +7,7 @@ ghost use Rattle.instructions.specs.Entry.{form_of};
 use opcodes::instruction::{Action, Address, Operand, Word};
 use registers::word::target;
 
-#[derive(Drop)]
+#[derive(Clone, Copy)]
 pub enum Form {
     // on to the next instruction, with SP and memory as they were
     Computes,

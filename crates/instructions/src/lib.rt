@@ -1,5 +1,7 @@
 // An inner crate: what the instructions of each kind read, compute and write, and their form. Its functions are proved
 // for every case of their kind.
+#![tactic(auto)]
+
 pub mod form; // what an instruction does to PC, SP and memory
 pub mod operand; // where an operand stands
 mod named; // the registers by name

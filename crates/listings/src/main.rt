@@ -1,5 +1,7 @@
 // Each of the 1,024 places of the opcode maps as text: an address, the bytes, the mnemonic and the operand.
 // tests/listings assembles them again.
+#![tactic(auto)]
+
 use io::write_all;
 use libc::STDOUT_FILENO;
 use text::listing::{Listing, list};

@@ -3,6 +3,7 @@ ghost use Rattle.std.specs.Prelude.{◌≡◌, ◌≤◌};
 ghost use Rattle.lists.specs.Digit.{digit_of};
 
 // Its value, in upper or lower case; 16 where the byte is none.
+#[tactic(auto, unfolding(crate::specs::Digit::digit_of))]
 pub fn digit(c: u8) -> u8
     ensures { (result ≡ digit_of c) × (result ≤ 16) }
 {

@@ -1,4 +1,6 @@
 // An inner crate: the marks of a ticket by address, for the desk stepper.
+#![tactic(auto)]
+
 ghost use Rattle.std.specs.Prelude.{◌≡◌, ◌≤◌, ◌<◌, get_or};
 ghost use Rattle.ticket.specs.Fields.{blank_mark};
 

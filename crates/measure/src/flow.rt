@@ -13,7 +13,7 @@ use opcodes::lookup::{Found, found_of};
 use opcodes::table::{actions, costs, modes};
 use registers::word::wrapping_add;
 
-#[derive(Drop)]
+#[derive(Clone, Copy)]
 pub enum Flow {
     // JSR and BSR
     Calls,

@@ -13,7 +13,7 @@ use stepper::answer::Stepped;
 use stepper::step;
 
 // The registers reached, how many calls have not returned, what is left of the budget, and whether the look has ended.
-#[derive(Drop)]
+#[derive(Clone, Copy)]
 pub struct Look {
     pub regs: Registers,
     pub pending: u32,

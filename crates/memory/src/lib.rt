@@ -1,4 +1,6 @@
 // An inner crate: a memory of 65,536 plain bytes, whose addresses wrap. Its functions require a memory of that length.
+#![tactic(auto)]
+
 ghost use Rattle.std.specs.Prelude.{◌≡◌, length};
 ghost use Rattle.memory.specs.Memory.{byte_at, word_at, with_byte};
 ghost use Rattle.memory.specs.inner.Stored.{with_stored, with_pushed};

@@ -1,5 +1,7 @@
 // The press monitor's C calls: thin entries over the stepper and the verdict, on numbers and byte slices. Each takes
 // any input. What a call does not answer it leaves as it was lent. Their header is include/jugrond.h.
+#![tactic(auto)]
+
 ghost use Rattle.std.specs.Prelude.{◌≡◌};
 ghost use Rattle.rules.specs.Checks.{verdict_of};
 ghost use Rattle.verdict.specs.Promise.{Promised};

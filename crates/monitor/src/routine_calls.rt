@@ -13,14 +13,14 @@ use registers::Data;
 use verdict::{Started, start_routine};
 
 // Of a call that has nothing to answer beside the lent bytes but a refusal's place.
-#[derive(Drop)]
+#[derive(Clone, Copy)]
 pub enum RoutineReply {
     Done,
     Refused(Refusal),
 }
 
 // Of a start: home, or a refusal.
-#[derive(Drop)]
+#[derive(Clone, Copy)]
 pub enum StartReply {
     Started(u16),
     NotStarted(Refusal),

@@ -19,7 +19,7 @@ pub const BAD_LENGTH: u32 = 21;
 const SPENT: u32 = 100;
 
 // A run refused on its way: the refusal's number and place, and the cycles before it.
-#[derive(Drop)]
+#[derive(Clone, Copy)]
 pub struct StoppedRun {
     pub number: u32,
     pub cycles: Cycles,
@@ -27,7 +27,7 @@ pub struct StoppedRun {
 }
 
 // What a call answers beside the lent bytes; what it does not answer is left as it was lent.
-#[derive(Drop)]
+#[derive(Clone, Copy)]
 pub enum StepperReply {
     Done(u32, Cycles), // an outcome that is no refusal
     Stopped(StoppedRun),

@@ -1,20 +1,20 @@
 // The decoded instruction: document 01's action with an operand. Actions are grouped by what they read and write, so
 // that a rule over all of them is short; a mnemonic of the manual is one case with its data.
 
-#[derive(Drop)]
+#[derive(Clone, Copy)]
 pub enum Accumulator {
     A,
     B,
 }
 
-#[derive(Drop)]
+#[derive(Clone, Copy)]
 pub enum Index {
     X,
     Y,
 }
 
 // A 16-bit register; S is the stack pointer.
-#[derive(Drop)]
+#[derive(Clone, Copy)]
 pub enum Word {
     D,
     X,
@@ -23,7 +23,7 @@ pub enum Word {
 }
 
 // What makes a byte of a byte, in an accumulator or in memory. LSL is ASL.
-#[derive(Drop)]
+#[derive(Clone, Copy)]
 pub enum Unary {
     Neg,
     Com,
@@ -38,7 +38,7 @@ pub enum Unary {
 }
 
 // What an accumulator and an operand byte give. CMP and BIT leave the accumulator as it was.
-#[derive(Drop)]
+#[derive(Clone, Copy)]
 pub enum Binary {
     Sub,
     Cmp,
@@ -53,7 +53,7 @@ pub enum Binary {
 }
 
 // What works on the registers alone, and neither on PC nor on SP. LSLD is ASLD.
-#[derive(Drop)]
+#[derive(Clone, Copy)]
 pub enum Inherent {
     Nop,
     Idiv,
@@ -87,7 +87,7 @@ pub enum Inherent {
     Xgdy,
 }
 
-#[derive(Drop)]
+#[derive(Clone, Copy)]
 pub enum Action {
     Inherent(Inherent),
     // NEGA, NEGB ..; TSTA and TSTB
@@ -134,14 +134,14 @@ pub enum Action {
 }
 
 // Where an operand stands in memory: at an address that the code names, or past X or Y by an unsigned offset.
-#[derive(Drop)]
+#[derive(Clone, Copy)]
 pub enum Address {
     Fixed(u16),
     IndexedX(u8),
     IndexedY(u8),
 }
 
-#[derive(Drop)]
+#[derive(Clone, Copy)]
 pub enum Operand {
     Inherent,
     Immediate(u16),
@@ -155,14 +155,14 @@ pub enum Operand {
     MaskBranch(Address, u8, u8),
 }
 
-#[derive(Drop)]
+#[derive(Clone, Copy)]
 pub enum Decoded {
     Instruction(Action, Operand),
     Nothing,
 }
 
 // How an operand is written in the bytes after the opcode.
-#[derive(Drop)]
+#[derive(Clone, Copy)]
 pub enum Mode {
     Inherent,
     Immediate8,

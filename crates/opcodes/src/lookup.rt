@@ -7,7 +7,7 @@ ghost use Rattle.opcodes.specs.inner.Lookup.{found_of};
 
 // An instruction's place in the maps, how many bytes its opcode has, and its entry in the table of costs. Each has the
 // width that the loop of the stepper takes it in: an index, a part of an address, a count of cycles.
-#[derive(Drop)]
+#[derive(Clone, Copy)]
 pub enum Found {
     At { place: usize, size: u16, cost: u32 },
     Nothing,

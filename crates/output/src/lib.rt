@@ -1,4 +1,6 @@
 // An inner crate of the programs: text, numbers and registers on standard output.
+#![tactic(auto)]
+
 use io::{print_decimal, print_hex, write_all};
 use libc::STDOUT_FILENO;
 use registers::Registers;

@@ -1,5 +1,7 @@
 // The checking program: reads press.bin, or press.s19 where there is none, and press.tkt from the folder it is run in
 // and prints the verdict as one line (document 01, "One routine, read aloud"; document 02, a).
+#![tactic(auto)]
+
 use answers::Verdict;
 use files::routine::{load_routine, room};
 use io::write_all;

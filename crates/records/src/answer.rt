@@ -1,7 +1,7 @@
 // What loading an image answers.
 use answers::Refusal;
 
-#[derive(Drop)]
+#[derive(Clone, Copy)]
 pub enum Loaded {
     Done,
     Refused(Refusal),

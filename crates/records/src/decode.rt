@@ -6,7 +6,7 @@ ghost use Rattle.records.specs.inner.Decoded.{decoded, countable, Within};
 use lists::digit::digit;
 
 // How many bytes, or that the digits spell none.
-#[derive(Drop)]
+#[derive(Clone, Copy)]
 pub enum Decoded {
     Bytes(usize),
     Malformed,

@@ -1,5 +1,7 @@
 // An inner crate: an image from an S-record file (document 02, a). `load_image` is what the verdict calls, with the
 // code window of a ticket that was read.
+#![tactic(auto)]
+
 ghost use Rattle.std.specs.Prelude.{◌≡◌, ◌≤◌};
 ghost use Rattle.records.specs.Load.{after_load, load_of};
 

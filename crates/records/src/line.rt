@@ -11,7 +11,7 @@ use crate::record::{address_of, formed, sum};
 use commands::header::Window;
 
 // 25, 26 or 27, or what the line leaves for the next.
-#[derive(Drop)]
+#[derive(Clone, Copy)]
 pub enum LineAnswer {
     Cause(u8),
     Next(FileProgress),

@@ -1,7 +1,7 @@
 // How far a file is read.
 
 // The lines so far, the S1 lines among them, and whether the last of them is S9.
-#[derive(Drop)]
+#[derive(Clone, Copy)]
 pub struct FileProgress {
     pub lines: usize,
     pub s1: usize,

@@ -6,7 +6,7 @@ ghost use Rattle.lists.specs.Bit.{one};
 use lists::bit::one;
 
 // Document 01's flags S X H I N Z V C, from bit 7 to bit 0 of their byte.
-#[derive(Drop)]
+#[derive(Clone, Copy)]
 pub struct Flags {
     pub s: bool,
     pub x: bool,

@@ -1,4 +1,6 @@
 // An inner crate: the register record, the condition codes, 16-bit register arithmetic, and the two kinds of count.
+#![tactic(auto)]
+
 ghost use Rattle.std.specs.Prelude.{◌≡◌};
 ghost use Rattle.registers.specs.Registers.{reset_of, start_of, data_of, accumulator_d, with_a, with_b, with_d, with_x};
 ghost use Rattle.registers.specs.Registers.{with_y, with_flags, with_data, with_pc, with_sp, with_pc_sp};
@@ -9,7 +11,7 @@ pub mod word; // sums and differences that wrap at 65,536; the smaller of two wo
 
 // The words stand first, so that an answer that holds registers keeps each at one place; among them the order was
 // chosen by measurement.
-#[derive(Drop)]
+#[derive(Clone, Copy)]
 pub struct Registers {
     pub x: u16,
     pub y: u16,
@@ -22,7 +24,7 @@ pub struct Registers {
 }
 
 // The registers but for PC, SP and the lowest SP: all that an instruction computes on.
-#[derive(Drop)]
+#[derive(Clone, Copy)]
 pub struct Data {
     pub x: u16,
     pub y: u16,
@@ -32,10 +34,10 @@ pub struct Data {
 }
 
 // Cycles and stack bytes are counted apart: no sum or comparison crosses them.
-#[derive(Drop)]
+#[derive(Clone, Copy)]
 pub struct Cycles(pub u32);
 
-#[derive(Drop)]
+#[derive(Clone, Copy)]
 pub struct StackBytes(pub u16);
 
 impl Registers {

@@ -2,14 +2,14 @@
 use answers::Refusal;
 use registers::{Cycles, Registers};
 
-#[derive(Drop)]
+#[derive(Clone, Copy)]
 pub enum Stepped {
     Done(Registers, Cycles),
     Refused(Refusal),
 }
 
 // Document 01's home and spent, and a refusal on the way.
-#[derive(Drop)]
+#[derive(Clone, Copy)]
 pub enum Ran {
     Home(Registers, Cycles),
     Spent(Registers, Cycles),

@@ -1,5 +1,7 @@
 // The stepper: one instruction, and a run of instructions within a cycle budget. `step`, `run` and, on a register
 // record, `record::advance` and `advance_copy` are the interface, and take any registers and any memory.
+#![tactic(auto)]
+
 ghost use Rattle.std.specs.Prelude.{◌≡◌};
 ghost use Rattle.stepper.specs.Answer.{answer_of, ran_of};
 ghost use Rattle.stepper.specs.Step.{step_of};

@@ -8,14 +8,14 @@ use answers::Refusal;
 use registers::{Cycles, Registers};
 
 // What is answered beside the lent record and memory.
-#[derive(Drop)]
+#[derive(Clone, Copy)]
 pub enum Advanced {
     Done(Cycles),
     Refused(Refusal),
 }
 
 // The registers that a step leads to, or, refused, those before it; and the answer.
-#[derive(Drop)]
+#[derive(Clone, Copy)]
 pub struct AdvancedCopy {
     pub registers: Registers,
     pub answer: Advanced,

@@ -17,7 +17,7 @@ use registers::{Cycles, Registers};
 
 // How the loop ends, with the registers reached and the cycles spent. A refusal is its number: its place, which is PC,
 // would cost the loop a register.
-#[derive(Drop)]
+#[derive(Clone, Copy)]
 pub enum Ended {
     Arrived(Registers, Cycles),
     Spent(Registers, Cycles),

@@ -9,7 +9,7 @@ use crate::columns::with_word;
 use crate::line::{Line, empty, put, with_pair, with_text};
 use registers::{Cycles, StackBytes};
 
-#[derive(Drop)]
+#[derive(Clone, Copy)]
 pub struct Totals {
     pub cycles: Cycles,
     pub allowed: Cycles,

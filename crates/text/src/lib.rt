@@ -1,4 +1,6 @@
 // An inner crate: numbers, instructions, verdicts and the desk stepper's lines as text.
+#![tactic(auto)]
+
 pub mod number; // in hexadecimal and in decimal
 // an instruction
 pub mod mnemonic; // its name

@@ -7,7 +7,7 @@ ghost use Rattle.text.specs.Number.{decimal_of};
 use crate::number::{put_decimal, put_text};
 
 // The first `len` bytes are the line's so far.
-#[derive(Drop)]
+#[derive(Clone, Copy)]
 pub struct Line {
     pub bytes: [u8; 256],
     pub len: usize,

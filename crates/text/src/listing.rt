@@ -14,7 +14,7 @@ use opcodes::table::{actions, costs, modes};
 use registers::word::wrapping_add;
 
 // Its bytes in hexadecimal, its mnemonic and its operand, each padded with spaces.
-#[derive(Drop)]
+#[derive(Clone, Copy)]
 pub struct Listing {
     pub bytes: [u8; 14],
     pub mnemonic: [u8; 5],

@@ -10,7 +10,7 @@ use crate::listing::Listing;
 use commands::command::Claim;
 
 // Whether an address has a mark, and what it claims.
-#[derive(Drop)]
+#[derive(Clone, Copy)]
 pub enum Marking {
     Marked(Claim),
     Unmarked,

@@ -12,7 +12,7 @@ use commands::command::Claim;
 use registers::{Cycles, Registers};
 
 // `after` are the registers afterwards, `cycles` those spent so far, this instruction's included.
-#[derive(Drop)]
+#[derive(Clone, Copy)]
 pub struct Traced {
     pub address: u16,
     pub listing: Listing,

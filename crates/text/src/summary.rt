@@ -26,7 +26,7 @@ fn greater(a: u32, b: u32) -> u32
 }
 
 // How often, the least and the most cycles until the routine's own return, and the lowest SP after it.
-#[derive(Drop)]
+#[derive(Clone, Copy)]
 pub struct Visits {
     pub times: u32,
     pub least: u32,

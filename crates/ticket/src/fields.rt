@@ -6,14 +6,14 @@ use commands::command::Claim;
 use commands::header::Header;
 use registers::{Cycles, StackBytes};
 
-#[derive(Drop)]
+#[derive(Clone, Copy)]
 pub struct Mark {
     pub address: u16,
     pub claim: Claim,
 }
 
 // The first `count` marks are the ticket's, in rising address; `read` leaves the others blank.
-#[derive(Drop)]
+#[derive(Clone, Copy)]
 pub struct Ticket {
     pub header: Header,
     pub count: u16,

@@ -1,5 +1,7 @@
 // The ticket: read from bytes and written to bytes (document 01, "The ticket"). `read` and `write` are the interface:
 // they take any bytes, any ticket and any room.
+#![tactic(auto)]
+
 ghost use Rattle.std.specs.Prelude.{◌≡◌, length};
 ghost use Rattle.ticket.specs.Read.{read_of};
 ghost use Rattle.ticket.specs.Write.{bytes_of, check_of, write_of, output_of};

@@ -16,7 +16,7 @@ use commands::parse::{ParsedCommand, parse};
 use commands::progress::Progress;
 
 // A command that is refused, or one that is read, with what it leaves for the next.
-#[derive(Drop)]
+#[derive(Clone, Copy)]
 pub enum NextCommand {
     Refused(Refusal),
     Next(Progress, Command),

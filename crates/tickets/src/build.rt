@@ -114,7 +114,7 @@ fn rest(b: u8) -> usize {
 }
 
 // How many bytes the ticket has, and how many of the text are still to be left out.
-#[derive(Drop)]
+#[derive(Clone, Copy)]
 struct Built {
     at: usize,
     skip: usize,

@@ -1,5 +1,7 @@
 // Tickets read and written: each as a short text, and what is answered. The file stdout has the answers of document 01,
 // and document 02's of home and of names, worked out by hand.
+#![tactic(auto)]
+
 use output::text;
 
 mod build; // a ticket's bytes from a short text

@@ -2,6 +2,8 @@
 // where the routine is accepted, runs it from its start and prints one line for each instruction; where it is refused,
 // the refusal, what it means, what stands at the place and what to do. docs/WORKSHOPS.md explains the lines and the
 // arguments.
+#![tactic(auto)]
+
 use accepted::accepted;
 use answers::Verdict;
 use bad_argument::say_why;

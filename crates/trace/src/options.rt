@@ -4,7 +4,7 @@ use registers::Data;
 
 // `memory` is the number of the argument that names a file, `bad` that of the first one that says nothing; 0 where
 // there is none.
-#[derive(Drop)]
+#[derive(Clone, Copy)]
 pub struct Options {
     pub start: Data,
     pub budget: u32,

@@ -14,7 +14,7 @@ use ticket::fields::Ticket;
 
 // The registers reached and the cycles spent; of the last instruction, where its mark stands and the cycles to go from
 // it.
-#[derive(Drop)]
+#[derive(Clone, Copy)]
 struct Reached {
     regs: Registers,
     spent: u32,

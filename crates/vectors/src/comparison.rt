@@ -4,7 +4,7 @@ ghost use Rattle.vectors.specs.Vector.{Compared};
 use crate::compare::step_agrees;
 use crate::line::shaped;
 
-#[derive(Drop)]
+#[derive(Clone, Copy)]
 pub enum Comparison {
     Malformed,
     Differs,

@@ -6,7 +6,7 @@ ghost use Rattle.vectors.specs.Count.{next, none, confirmed_of, counted_of};
 use crate::comparison::Comparison;
 use std::num::wrapping_add_u32;
 
-#[derive(Drop)]
+#[derive(Clone, Copy)]
 pub struct Counts {
     pub vectors: u32,
     pub neither: u32,

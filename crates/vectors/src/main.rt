@@ -1,5 +1,7 @@
 // Stored vectors of other simulators, each run through `step`: reads vectors.txt from its folder and prints what
 // agrees.
+#![tactic(auto)]
+
 use count::Counts;
 use output::{counted, text};
 

@@ -10,7 +10,7 @@ use stepper::answer::Stepped;
 use stepper::step;
 
 // What a step at $8000 comes to, with a refusal only where it names PC and kept memory.
-#[derive(Drop)]
+#[derive(Clone, Copy)]
 enum Stands {
     Done,
     Empty,
@@ -58,7 +58,7 @@ fn tried_at(place: usize) -> Stands {
     }
 }
 
-#[derive(Drop)]
+#[derive(Clone, Copy)]
 struct Tally {
     done: u32,
     waits: u32,

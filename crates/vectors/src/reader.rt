@@ -11,7 +11,7 @@ use output::text;
 use std::num::wrapping_add_u32;
 
 // How many bytes of a line are in the buffer, and what is counted of the lines before it.
-#[derive(Drop)]
+#[derive(Clone, Copy)]
 struct State {
     filled: usize,
     counts: Counts,
@@ -90,7 +90,7 @@ fn piece(s: &[u8], st: State, buffer: &mut [u8], places: &mut [u32; 1024]) -> St
 }
 
 // What one read came to.
-#[derive(Drop)]
+#[derive(Clone, Copy)]
 enum Read {
     More(State),
     End,

@@ -1,5 +1,7 @@
 // The verdict on a routine, and its start. `verdict`, `verdict_of_records`, `certify`, `start` and `start_routine` are
 // the interface: they take any bytes, any header, any buffer and any memory.
+#![tactic(auto)]
+
 ghost use Rattle.std.specs.Prelude.{◌≡◌};
 ghost use Rattle.rules.specs.Checks.{verdict_of};
 ghost use Rattle.verdict.specs.Promise.{Promised};
@@ -21,7 +23,7 @@ use ticket::read;
 mod load; // the image and home's bytes into memory
 
 // Of an accepted routine: its ticket's header, which a start goes by, and the certified figures.
-#[derive(Drop)]
+#[derive(Clone, Copy)]
 pub struct Certificate {
     pub header: Header,
     pub cost: Cycles,
@@ -29,7 +31,7 @@ pub struct Certificate {
 }
 
 // A routine judged.
-#[derive(Drop)]
+#[derive(Clone, Copy)]
 pub enum Certification {
     Granted(Certificate),
     Refused(Refusal),
@@ -101,7 +103,7 @@ pub fn verdict_of_records(ticket: &[u8], file: &[u8], image: &mut [u8]) -> Verdi
 
 // The registers at the start and home, which a run is then given; or a refusal: 21 for the memory's length, 9 for the
 // image's, or the verdict's.
-#[derive(Drop)]
+#[derive(Clone, Copy)]
 pub enum Started {
     At(Registers, u16),
     Refused(Refusal),
