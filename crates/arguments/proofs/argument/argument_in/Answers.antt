@@ -1,0 +1,132 @@
+-- `argument_in` meets its contract: the first name that the text begins with decides, and the number stands after it.
+-- Assumes nothing.
+use borrow.Author.Rules.{rules}
+use mathlib.Core.Path.{sym, ◌∙◌}
+use native.Mathlib.Omega.{arith}
+use Rattle.arguments.specs.Argument.{argument_of}
+use Rattle.arguments.proofs.Begins.{rest}
+use Rattle.arguments.proofs.argument.argument_in.Goals as goal
+
+-- UNPLACED
+part-number-start : tie.Need-slice-bounds-number-start
+part-number-start c = omega (arith, c.before.starts_with.ensures.1 c.if1.true)
+
+-- UNPLACED
+part-number-start-2 : tie.Need-slice-bounds-number-start-2
+part-number-start-2 c = omega (arith, c.before.starts-with2.ensures.1 c.if2.true)
+
+-- UNPLACED
+part-number-start-3 : tie.Need-slice-bounds-number-start-3
+part-number-start-3 c = omega (arith, c.before.starts-with3.ensures.1 c.if3.true)
+
+-- UNPLACED
+part-number-start-4 : tie.Need-slice-bounds-number-start-4
+part-number-start-4 c = omega (arith, c.before.starts-with4.ensures.1 c.if4.true)
+
+-- UNPLACED
+part-number-start-5 : tie.Need-slice-bounds-number-start-5
+part-number-start-5 c = omega (arith, c.before.starts-with5.ensures.1 c.if5.true)
+
+-- UNPLACED
+part-number-start-6 : tie.Need-slice-bounds-number-start-6
+part-number-start-6 c = omega (arith, c.before.starts-with6.ensures.1 c.if6.true)
+
+-- sₖ is after the k-th name was looked for
+pub slice_bounds-number-count : goal.slice_bounds-number-count
+slice_bounds-number-count c = omega (arith, c.starts_with.ensures.1 c.if-starts_with.true)
+
+pub returns-then-starts_with : goal.returns-then-starts_with
+unfolding argument_of
+returns-then-starts_with c = simp (
+  sym c.starts_with.ensures.0 ∙ c.if-starts_with.true,
+  c.set_to.ensures,
+  c.number.ensures,
+  rest,
+)
+
+pub slice_bounds-number-count-then-starts_with-2 : goal.slice_bounds-number-count-then-starts_with-2
+slice_bounds-number-count-then-starts_with-2 c = omega (arith, c.starts_with-2.ensures.1 c.if-starts_with-2.true)
+
+pub returns-then-starts_with-2 : goal.returns-then-starts_with-2
+unfolding argument_of
+returns-then-starts_with-2 c = simp (
+  sym c.starts_with.ensures.0 ∙ c.if-starts_with.false,
+  sym c.starts_with-2.ensures.0 ∙ c.if-starts_with-2.true,
+  c.set_to-then-starts_with-2.ensures,
+  c.number-then-starts_with-2.ensures,
+  rest,
+)
+
+pub slice_bounds-number-count-then-starts_with-3 : goal.slice_bounds-number-count-then-starts_with-3
+slice_bounds-number-count-then-starts_with-3 c = omega (arith, c.starts_with-3.ensures.1 c.if-starts_with-3.true)
+
+pub returns-then-starts_with-3 : goal.returns-then-starts_with-3
+unfolding argument_of
+returns-then-starts_with-3 c = simp (
+  sym c.starts_with.ensures.0 ∙ c.if-starts_with.false,
+  sym c.starts_with-2.ensures.0 ∙ c.if-starts_with-2.false,
+  sym c.starts_with-3.ensures.0 ∙ c.if-starts_with-3.true,
+  c.set_to-then-starts_with-3.ensures,
+  c.number-then-starts_with-3.ensures,
+  rest,
+)
+
+pub slice_bounds-number-count-then-starts_with-4 : goal.slice_bounds-number-count-then-starts_with-4
+slice_bounds-number-count-then-starts_with-4 c = omega (arith, c.starts_with-4.ensures.1 c.if-starts_with-4.true)
+
+pub returns-then-starts_with-4 : goal.returns-then-starts_with-4
+unfolding argument_of
+returns-then-starts_with-4 c = simp (
+  sym c.starts_with.ensures.0 ∙ c.if-starts_with.false,
+  sym c.starts_with-2.ensures.0 ∙ c.if-starts_with-2.false,
+  sym c.starts_with-3.ensures.0 ∙ c.if-starts_with-3.false,
+  sym c.starts_with-4.ensures.0 ∙ c.if-starts_with-4.true,
+  c.set_to-then-starts_with-4.ensures,
+  c.number-then-starts_with-4.ensures,
+  rest,
+)
+
+pub slice_bounds-number-count-then-starts_with-5 : goal.slice_bounds-number-count-then-starts_with-5
+slice_bounds-number-count-then-starts_with-5 c = omega (arith, c.starts_with-5.ensures.1 c.if-starts_with-5.true)
+
+pub returns-then-starts_with-5 : goal.returns-then-starts_with-5
+unfolding argument_of
+returns-then-starts_with-5 c = simp (
+  sym c.starts_with.ensures.0 ∙ c.if-starts_with.false,
+  sym c.starts_with-2.ensures.0 ∙ c.if-starts_with-2.false,
+  sym c.starts_with-3.ensures.0 ∙ c.if-starts_with-3.false,
+  sym c.starts_with-4.ensures.0 ∙ c.if-starts_with-4.false,
+  sym c.starts_with-5.ensures.0 ∙ c.if-starts_with-5.true,
+  c.set_to-then-starts_with-5.ensures,
+  c.number-then-starts_with-5.ensures,
+  rest,
+)
+
+pub slice_bounds-number-count-then-starts_with-6 : goal.slice_bounds-number-count-then-starts_with-6
+slice_bounds-number-count-then-starts_with-6 c = omega (arith, c.starts_with-6.ensures.1 c.if-starts_with-6.true)
+
+pub returns-then-starts_with-6 : goal.returns-then-starts_with-6
+unfolding argument_of
+returns-then-starts_with-6 c = simp (
+  sym c.starts_with.ensures.0 ∙ c.if-starts_with.false,
+  sym c.starts_with-2.ensures.0 ∙ c.if-starts_with-2.false,
+  sym c.starts_with-3.ensures.0 ∙ c.if-starts_with-3.false,
+  sym c.starts_with-4.ensures.0 ∙ c.if-starts_with-4.false,
+  sym c.starts_with-5.ensures.0 ∙ c.if-starts_with-5.false,
+  sym c.starts_with-6.ensures.0 ∙ c.if-starts_with-6.true,
+  c.set_to-then-starts_with-6.ensures,
+  c.number-then-starts_with-6.ensures,
+  rest,
+)
+
+pub returns : goal.returns
+unfolding argument_of
+returns c = simp (
+  sym c.starts_with.ensures.0 ∙ c.if-starts_with.false,
+  sym c.starts_with-2.ensures.0 ∙ c.if-starts_with-2.false,
+  sym c.starts_with-3.ensures.0 ∙ c.if-starts_with-3.false,
+  sym c.starts_with-4.ensures.0 ∙ c.if-starts_with-4.false,
+  sym c.starts_with-5.ensures.0 ∙ c.if-starts_with-5.false,
+  sym c.starts_with-6.ensures.0 ∙ c.if-starts_with-6.false,
+  c.other.ensures,
+)
