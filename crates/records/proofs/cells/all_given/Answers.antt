@@ -24,4 +24,3 @@ loop-i-preserved c = let cells = c.args.cells.now in
 pub returns : goal.returns
 returns c = rw (drop_of_length-le c.args.cells.now {i = c.loop-i.i} c.loop-i-test.false) at c.loop-i.invariant.1
 
--- loop-i-init: (λ c. (omega arith, refl))

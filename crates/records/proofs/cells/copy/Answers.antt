@@ -32,4 +32,3 @@ returns c = let cells = c.args.cells.now in
     sym (take_all c.loop-i.i c.loop-i.image (omega arith)) ∙ c.loop-i.invariant.2
     ∙ take_all c.loop-i.i cells (omega arith)
 
--- loop-i-init: (λ c. (omega arith, sym c.requires.0, refl))

@@ -33,9 +33,6 @@ returns-then-cells-j-lt256 c = let a = c.args in
     c.if-a-start.false c.if-past-a.false c.if-cells-j-lt256.true in
     (sym e ∙ c.loop-i.invariant.2 a.code refl refl, c.loop-i.invariant.1)
 
-pub overflow_cast-cells : goal.overflow_cast-cells
-overflow_cast-cells c = omega (arith, c.shared_slice_known-1.given c.loop-i.i)
-
 pub loop-i-preserved : goal.loop-i-preserved
 loop-i-preserved c = let a = c.args in (
   omega arith,

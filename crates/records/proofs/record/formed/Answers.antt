@@ -10,12 +10,6 @@ pub returns-then-n-lt4 : goal.returns-then-n-lt4
 unfolding formed
 returns-then-n-lt4 c = simp (lt-leb 4 _ c.if-n-lt4.true)
 
-pub overflow_cast-bytes : goal.overflow_cast-bytes
-overflow_cast-bytes c = omega (arith, c.shared_slice_known-2-1.given 0)
-
-pub overflow_add-bytes : goal.overflow_add-bytes
-overflow_add-bytes c = omega (arith, c.shared_slice_known-2-1.given 0)
-
 pub returns-then-bytes-n : goal.returns-then-bytes-n
 unfolding formed
 returns-then-bytes-n c = simp (le-leb 4 _ c.if-n-lt4.false, ne_eqb _ _ c.if-bytes-n.true)
@@ -44,7 +38,7 @@ returns-in-57 c = simp (le-leb 4 _ c.if-n-lt4.false, eq-eqb _ _ c.if-bytes-n.fal
 pub returns-in_default : goal.returns-in_default
 unfolding formed
 returns-in_default c = let t = c.args.t in
-    let no = c.in_default-own.rest in
+    let no = c.in_default.in_default-own.rest in
     simp (
       le-leb 4 _ c.if-n-lt4.false,
       eq-eqb _ _ c.if-bytes-n.false,

@@ -12,12 +12,6 @@ use Rattle.records.proofs.record.sum.Goals as goal
 pub loop-i-init : goal.loop-i-init
 loop-i-init c = (omega arith, omega arith, simp zero-add)
 
-pub overflow_cast-s : goal.overflow_cast-s
-overflow_cast-s c = omega (arith, c.shared_slice_known-1.given c.loop-i.i)
-
-pub overflow_add-s : goal.overflow_add-s
-overflow_add-s c = omega (arith, c.shared_slice_known-1.given c.loop-i.i)
-
 pub loop-i-preserved : goal.loop-i-preserved
 loop-i-preserved c = let l = c.loop-i in
     let bytes = c.args.bytes.now in
