@@ -1,17 +1,17 @@
 -- `load_image` meets its contract: the cells are copied where the file names an image, whose bytes are all given.
 -- Assumes nothing.
-use mathlib.Core.Path.{◌≡◌, sym, ap, ◌∙◌}
+use mathlib.Core.Path.{◌≡◌, sym, ◌∙◌}
 use mathlib.Core.List.{List}
 use Prim.Native.Nat.{ℕ}
 use native.Mathlib.Omega.{arith}
 use borrow.Author.Tests.{eq-eqb, ne_eqb}
-use lib.ListN.{length, take, length-replicate}
+use lib.ListN.{length-replicate}
 use lib.Seq.{length-take-le}
 use Rattle.answers.specs.declared.Refusal.{Refusal}
 use Rattle.commands.specs.declared.header.Window.{Window}
 use Rattle.records.specs.declared.answer.Loaded.{Loaded}
-use Rattle.records.specs.declared.answer.Loaded.TheVariants.{Done, Refused}
-use Rattle.records.specs.Read.{named, file_of}
+use Rattle.records.specs.declared.answer.Loaded.TheVariants.{Refused}
+use Rattle.records.specs.Read.{file_of}
 use Rattle.records.specs.inner.Decoded.{after_lines}
 use Rattle.records.specs.Load.{after_load, load_of}
 use Rattle.records.proofs.GoodNames.{good_given}
@@ -33,7 +33,7 @@ slice_bounds-copy-end c = sym (length-take-le _ _ (omega (arith, c.read_lines.au
 pub copy-requires : goal.copy-requires
 copy-requires c =
     let whole = length-take-le c.args.code.length c.read_lines.new.cells
-        (omega (arith, c.read_lines.auto.cells, length-replicate {A = ℕ} 4096 256)) in
+    (omega (arith, c.read_lines.auto.cells, length-replicate {A = ℕ} 4096 256)) in
     (whole ∙ sym c.if-image-n.false, good_given _ c.requires _ _ (sym c.in-Done.ensures))
 
 pub returns-else-image-n : goal.returns-else-image-n

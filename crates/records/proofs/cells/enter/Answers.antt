@@ -1,13 +1,9 @@
 -- `enter` meets its contract. The loop's invariant: what is left of the bytes leads to what all of them do.
 -- Assumes nothing.
-use borrow.Author.Rules.{rules}
-use mathlib.Core.Path.{◌≡◌, refl, sym, ◌∙◌}
-use Prim.Native.Nat.{◌+◌, ◌-◌, ◌≤◌}
+use mathlib.Core.Path.{refl, sym, ◌∙◌}
 use native.Mathlib.Nat.{add-zero}
 use native.Mathlib.Omega.{arith}
-use lib.ListN.{length, drop, length-set, drop_of_length-le}
-use Rattle.commands.specs.declared.header.Window.{Window}
-use Rattle.records.specs.Record.{given_from}
+use lib.ListN.{length-set, drop_of_length-le}
 use Rattle.records.specs.Read.{enter}
 use Rattle.records.proofs.Enter.{below, above, twice, entered_byte}
 use Rattle.records.proofs.cells.enter.Goals as goal

@@ -22,12 +22,12 @@ returns-then-rest-lt2 c =
 pub returns-then-high-low : goal.returns-then-high-low
 returns-then-high-low c =
     let q : Pair c.args.s.now c.loop-n.at c.digit-high.result c.digit-low.result =
-        record {
-          unended = sym c.ends.ensures ∙ c.if-ends.false;
-          long = c.if-rest-lt2.false;
-          high_is = c.digit-high.ensures.0;
-          low_is = c.digit-low.ensures.0;
-        } in
+    record {
+      unended = sym c.ends.ensures ∙ c.if-ends.false;
+      long = c.if-rest-lt2.false;
+      high_is = c.digit-high.ensures.0;
+      low_is = c.digit-low.ensures.0;
+    } in
     (no_digits c.loop-n.invariant q c.if-high-low.true, tt)
 
 pub overflow_mul-buffer : goal.overflow_mul-buffer
@@ -39,12 +39,12 @@ overflow_add-buffer c = omega (arith, small_digits {high = c.digit-high.result} 
 pub loop-n-preserved : goal.loop-n-preserved
 loop-n-preserved c =
     let q : Pair c.args.s.now c.loop-n.at c.digit-high.result c.digit-low.result =
-        record {
-          unended = sym c.ends.ensures ∙ c.if-ends.false;
-          long = c.if-rest-lt2.false;
-          high_is = c.digit-high.ensures.0;
-          low_is = c.digit-low.ensures.0;
-        } in
+    record {
+      unended = sym c.ends.ensures ∙ c.if-ends.false;
+      long = c.if-rest-lt2.false;
+      high_is = c.digit-high.ensures.0;
+      low_is = c.digit-low.ensures.0;
+    } in
     so_far_next c.loop-n.invariant q c.if-high-low.false (omega arith)
 
 pub returns-then-ends-2 : goal.returns-then-ends-2

@@ -3,12 +3,11 @@
 -- Assumes nothing.
 use borrow.Author.Rules.{rules}
 use borrow.Author.Tests.{not-true, not-false}
-use mathlib.Core.Path.{◌≡◌, sym, ap, ◌∙◌}
+use mathlib.Core.Path.{sym, ap, ◌∙◌}
 use native.Mathlib.Omega.{arith}
-use lib.ListN.{length}
 use lib.Seq.{length-take-le}
-use Rattle.records.specs.Read.{refused, close_of, file_of}
-use Rattle.records.proofs.Course.{Reached, begins, ends, line_fits, stops, goes_on}
+use Rattle.records.specs.Read.{refused}
+use Rattle.records.proofs.Course.{begins, ends, line_fits, stops, goes_on}
 use Rattle.records.proofs.file.read_lines.Goals as goal
 
 pub loop-at-init : goal.loop-at-init

@@ -1,10 +1,8 @@
 -- `judge` meets its contract: a line of fewer than two characters has no bytes, and more bytes than the buffer has are
 -- more than a count says.
 -- Assumes nothing.
-use mathlib.Core.Path.{◌≡◌, sym}
-use Prim.Native.Nat.{◌≤◌}
+use mathlib.Core.Path.{sym}
 use native.Mathlib.Omega.{arith}
-use lib.ListN.{length, take}
 use lib.Seq.{length-take-le}
 use Rattle.records.proofs.CountableBytes.{short_line, malformed_line, counted_line}
 use Rattle.records.proofs.line.judge.Goals as goal

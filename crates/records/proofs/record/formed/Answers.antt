@@ -1,7 +1,5 @@
 -- `formed` meets its contract: the tests stand in the order of the definition.
 -- Assumes nothing.
-use borrow.Author.Rules.{rules}
-use native.Mathlib.Omega.{arith}
 use borrow.Author.Tests.{le-leb, lt-leb, eq-eqb, ne_eqb}
 use Rattle.records.specs.Read.{formed}
 use Rattle.records.proofs.record.formed.Goals as goal

@@ -1,11 +1,7 @@
 -- `sum` meets its contract. The loop's invariant: s and the bytes left have the sum's last eight bits.
 -- Assumes nothing.
-use mathlib.Core.Path.{◌≡◌}
-use Prim.Native.Nat.{◌+◌, ◌-◌, ◌%◌, ◌≤◌, ◌<◌}
 use native.Mathlib.Nat.{zero-add}
 use native.Mathlib.Omega.{arith}
-use lib.ListN.{length, drop}
-use Rattle.records.specs.Record.{sum}
 use Rattle.records.proofs.RecordBytes.{sum_next, sum_all}
 use Rattle.records.proofs.record.sum.Goals as goal
 
