@@ -2,16 +2,7 @@
 -- Assumes nothing.
 use borrow.Author.Tests.{ne_eqb}
 use Rattle.commands.specs.Admit.{admit_of}
-use borrow.Author.Rules.{rules}
 use Rattle.commands.proofs.admit.admit.Goals as goal
-
-pub cause-number-requires : goal.cause-number-requires
-unfolding admit_of
-cause-number-requires c = search rules
-
-pub after-requires : goal.after-requires
-unfolding admit_of
-after-requires c = search rules
 
 pub returns-then-number-eq0 : goal.returns-then-number-eq0
 unfolding admit_of

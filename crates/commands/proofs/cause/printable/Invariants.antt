@@ -1,13 +1,8 @@
--- `printable` meets its contract. The loop's invariant: the text is printable if what is left of it is. The measure is
--- what is left.
+-- The loop's invariant: the text is printable if what is left of it is. The measure is what is left.
 -- Assumes nothing.
-use mathlib.Core.Path.{◌≡◌, refl, sym, ◌∙◌}
-use native.Mathlib.Omega.{arith}
-use borrow.Author.Rules.{rules}
-use borrow.Author.Tests.{not-true, not-false}
+use mathlib.Core.Path.{◌≡◌}
 use Rattle.commands.specs.Number.{digits}
 use Rattle.commands.specs.Rows.{printable}
-use Rattle.commands.proofs.Printable.{unprintable, printable_rest}
 use Rattle.commands.proofs.cause.printable.Given as goal
 
 abbrev pub invariant-loop-left : goal.invariant-loop-left

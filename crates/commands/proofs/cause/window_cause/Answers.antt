@@ -1,51 +1,53 @@
 -- `window_cause` meets its contract: only a window is looked at.
 -- Assumes nothing.
+use mathlib.Core.Path.{◌≡◌, ap, sym, ◌∙◌}
 use Prim.Native.Nat.{ℕ}
-use mathlib.Core.Path.{◌≡◌, sym, ap, ◌∙◌}
-use mathlib.Core.Bool.{true}
-use borrow.Author.Tests.{ltb-true}
+use mathlib.Core.Bool.{true, false}
 use Rattle.commands.specs.Rows.{row_of}
 use Rattle.commands.specs.Command.{command_byte_of, operands_of, window_of}
-use Rattle.commands.specs.Cause.{edges_within, edges_hold, apart_from, separate}
+use Rattle.commands.specs.Cause.{edges_within, apart_from}
 use Rattle.commands.specs.inner.Table.{code_row}
 use Rattle.commands.specs.inner.WindowCause.{window_cause_of}
 use Rattle.commands.specs.declared.header.Window.{Window}
 use Rattle.commands.specs.declared.header.Header.{Header}
 use Rattle.commands.specs.declared.command.Command.{Command}
 use Rattle.commands.specs.declared.row.TableRow.{TableRow as CodeRow}
-use Rattle.commands.specs.declared.row.WindowStart.{WindowStart}
-use Rattle.commands.specs.declared.row.WindowStart.TheVariants as WindowStart
-use Rattle.commands.proofs.Coding.{said}
-use Rattle.commands.proofs.Table.{row_window}
-use Rattle.commands.proofs.Tests.{fails, passes}
-use borrow.Author.Rules.{rules}
+use Rattle.commands.specs.declared.row.WindowStart.TheVariants.{NoWindow, From}
 use Rattle.commands.proofs.cause.window_cause.Goals as goal
 
--- the test of the edges does not stop
-edged : (c : tie.Else1) → edges_hold (command (row c.before.before)) ≡ true
-edged c = passes (c.before.edges-within.ensures ∙ edges c.before.before) c.if1.false
+-- the command's row has the window's start that the code's has
+module _ (h : Header) (c : Command) (row : CodeRow) (is_row : row ≡ code_row (row_of (command_byte_of c))) where
+  none : row.window ≡ NoWindow → 0 ≡ window_cause_of h c
+  unfolding window_cause_of
+  none e = rw (sym (ap (λ (r : CodeRow). r.window) is_row) ∙ e)
 
-pub row_of-row-requires : goal.row_of-row-requires
-row_of-row-requires c = rw c.byte_of.ensures (ltb-true _ _ (said c.args.c).known_byte)
+  module _ (least : ℕ) (stated : row.window ≡ From least) (w : Window) (is_window : w ≡ window_of (operands_of c)) where
+    past_edges : edges_within least w ≡ false → 5 ≡ window_cause_of h c
+    unfolding window_cause_of
+    past_edges e = rw (sym (ap (λ (r : CodeRow). r.window) is_row) ∙ stated, rw is_window at e)
 
-pub window-w-requires : goal.window-w-requires
-window-w-requires c = let e = is_row c {-After_row_of-} in
-    let fits = c.operands_of.ensures.1 in
-    rw c.in-From.is at
-    (row_window (command_byte_of (command c {-After_row_of-})) _ e c.operands_of.result (rw e fits))
+    shared : edges_within least w ≡ true → apart_from h w ≡ false → 6 ≡ window_cause_of h c
+    unfolding window_cause_of
+    shared e f = rw (sym (ap (λ (r : CodeRow). r.window) is_row) ∙ stated, rw is_window at e, rw is_window at f)
 
-pub returns-then-not-edges_within : goal.returns-then-not-edges_within
-unfolding window_cause_of
-returns-then-not-edges_within c = rw (fails (c.edges_within.ensures ∙ edges c {-After_window-}) c.if-not-edges_within.true)
-
-pub returns-then-not-apart_from : goal.returns-then-not-apart_from
-unfolding window_cause_of
-returns-then-not-apart_from c = rw (edged c, {-Else1-} fails (c.apart_from.ensures ∙ separates c {-After_window-}) c.if-not-apart_from.true)
+    clear : edges_within least w ≡ true → apart_from h w ≡ true → 0 ≡ window_cause_of h c
+    unfolding window_cause_of
+    clear e f = rw (sym (ap (λ (r : CodeRow). r.window) is_row) ∙ stated, rw is_window at e, rw is_window at f)
 
 pub returns-in-NoWindow : goal.returns-in-NoWindow
-unfolding window_cause_of
-returns-in-NoWindow c = rw (is-start c {-After_row_of-} WindowStart.NoWindow c.in-NoWindow.is)
+returns-in-NoWindow c = none _ _ _ (rw c.byte_of.ensures at c.row_of-row.ensures) c.in-NoWindow.is
+
+pub returns-then-not-edges_within : goal.returns-then-not-edges_within
+returns-then-not-edges_within c =
+    past_edges _ _ _ (rw c.byte_of.ensures at c.row_of-row.ensures) _ c.in-From.is _
+    (rw c.operands_of.ensures.0 at c.window-w.ensures) (cc)
+
+pub returns-then-not-apart_from : goal.returns-then-not-apart_from
+returns-then-not-apart_from c =
+    shared _ _ _ (rw c.byte_of.ensures at c.row_of-row.ensures) _ c.in-From.is _
+    (rw c.operands_of.ensures.0 at c.window-w.ensures) (cc) (cc)
 
 pub returns-else-not-apart_from : goal.returns-else-not-apart_from
-unfolding window_cause_of
-returns-else-not-apart_from c = rw (edged c, {-Else1-} passes (c.apart_from.ensures ∙ separates c {-After_window-}) c.if-not-apart_from.false)
+returns-else-not-apart_from c =
+    clear _ _ _ (rw c.byte_of.ensures at c.row_of-row.ensures) _ c.in-From.is _
+    (rw c.operands_of.ensures.0 at c.window-w.ensures) (cc) (cc)

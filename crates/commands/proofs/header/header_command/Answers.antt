@@ -4,20 +4,12 @@ use Prim.Native.Nat.{ℕ, ◌<◌}
 use mathlib.Core.Path.{◌≡◌, refl}
 use native.Mathlib.Omega.{arith}
 use Rattle.registers.specs.declared.Cycles.{Cycles}
-use Rattle.commands.specs.Rows.{header_length}
 use Rattle.commands.specs.Fits.{Fits}
 use Rattle.commands.specs.Fits.FitsLayout.{none, more}
 use Rattle.commands.specs.declared.header.Window.{Window}
 use Rattle.commands.specs.declared.command.HeaderCommand.TheVariants.{Code, Data, Stack, Entry, Home}
 use Rattle.commands.specs.declared.command.Command.TheVariants as Command
 use Rattle.commands.proofs.header.header_command.Goals as goal
-
--- the stage without an arm of its own
-last : (c : tie.At-match-rest) → c.before.before.before.before.before.args.stage ≡ 4
-last c =
-    let s = c.before.before.before.before.before in
-    let early : s.args.stage < header_length = s.requires in
-    omega arith
 
 code_fits : (w : Window) → w.start < 65536 → w.length < 65536 → Fits (Command.Header (Code w))
 code_fits w s l = more s (more l none)
@@ -47,4 +39,6 @@ pub returns-in-3 : goal.returns-in-3
 returns-in-3 c = rw c.in-3.is (refl, entry-fits _ _ (omega arith) (omega arith))
 
 pub returns-in_default : goal.returns-in_default
-returns-in_default c = rw (last c {-At_match_rest-}) (refl, home_fits _ (omega arith))
+returns-in_default c =
+    let last : c.args.stage ≡ 4 = omega arith in
+    rw last (refl, home_fits _ (omega arith))

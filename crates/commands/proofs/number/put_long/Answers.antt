@@ -1,7 +1,6 @@
 -- `number::put_long` meets its contract: one half, then the other.
 -- Assumes nothing.
 use mathlib.Core.Path.{refl}
-use borrow.Author.Rules.{rules}
 use Prim.Native.Nat.{◌+◌}
 use native.Mathlib.Omega.{arith}
 use Rattle.lists.proofs.Splice.{placed_none}
@@ -10,10 +9,9 @@ use Rattle.commands.proofs.Put.{placed_digits}
 use Rattle.commands.proofs.number.put_long.Goals as goal
 
 pub returns : goal.returns
-returns c = let s = c {-Start-} in
-    let a = s.args in
+returns c =
+    let a = c.args in
     let high =
-    placed_digits {m = a.at + 2} (placed_none a.out.now a.at) (omega arith) 2 _
-    (c.put_word.ensures, refl) in
+    placed_digits {m = a.at + 2} (placed_none a.out.now a.at) (omega arith) 2 _ (c.put_word.ensures, refl) in
     rw (← digits_long a.v) (placed_digits {m = a.at + 4} high (omega arith) 2 a.v
     (c.put_word-2.ensures, omega arith)).bytes
