@@ -1,5 +1,5 @@
 -- What is read fits the buffer, whose length stays. The measure is how much room is left.
-use Rattle.std.proofs.Common.{length, ◌-◌, ◌≡◌, ◌≤◌}
+use Rattle.std.proofs.Common.{length, ◌-◌, ◌≤◌}
 use Rattle.files.proofs.fill.Given as goal
 
 abbrev pub invariant-loop-done : goal.invariant-loop-done
