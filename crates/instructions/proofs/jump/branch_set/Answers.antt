@@ -15,4 +15,4 @@ branch_if-requires c = search rules
 
 pub returns : goal.returns
 unfolding opened
-returns c o m v k t = (simp (c.branch_if.ensures, UNKNOWN.c.before.All-set.ensures, v, k, t), refl)
+returns c o m v k t = (simp (c.branch_if.ensures, c.all_set.ensures, v, k, t), refl)

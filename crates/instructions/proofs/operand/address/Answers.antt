@@ -125,4 +125,4 @@ returns-in-13 c = simp (c.in-13.is, c.indexed-in-13.ensures)
 
 pub returns-in_default : goal.returns-in_default
 unfolding address_at
-returns-in_default c = simp (← missed c.args.k all_modes Inherent c.in_default-own.rest)
+returns-in_default c = simp (← missed c.args.k all_modes Inherent c.in_default.in_default-own.rest)
