@@ -19,7 +19,6 @@ use Rattle.commands.specs.Fits.{FitsLayout, Fits}
 use Rattle.commands.specs.Fits.FitsLayout.{none, more}
 use Rattle.commands.specs.Progress.{after_of}
 use Rattle.commands.specs.declared.command.Command.{Command}
-use Rattle.commands.specs.declared.command.Command.TheVariants as Command
 use Rattle.commands.specs.declared.parse.ParsedCommand.TheVariants.{Unknown, Cut, Found}
 use Rattle.commands.specs.declared.progress.Progress.{Progress}
 use Rattle.commands.proofs.Below.{below}

@@ -18,7 +18,6 @@ use Rattle.commands.specs.inner.Sound.{header_bytes, Sound, SoundSoFar, stopped,
 use Rattle.commands.specs.Cause.{command_cause_of}
 use Rattle.commands.specs.Admit.{admit_of, then_of}
 use Rattle.commands.specs.declared.command.Command.{Command}
-use Rattle.commands.specs.declared.command.Command.TheVariants as Command
 use Rattle.answers.specs.declared.Refusal.{Refusal}
 use Rattle.commands.specs.declared.header.Header.{Header}
 use Rattle.commands.specs.declared.progress.Progress.{Progress}

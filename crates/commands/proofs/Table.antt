@@ -3,7 +3,7 @@
 -- Assumes nothing.
 use mathlib.Core.Path.{◌≡◌, refl, subst}
 use mathlib.Core.Bool.{Bool, true, false, ◌&&◌, ◌||◌, and-eq-true_iff, true≢false, and-true}
-use Prim.Native.Nat.{ℕ, zero, suc, ◌+◌, ◌^◌, ◌≤◌, ◌<◌}
+use Prim.Native.Nat.{ℕ, zero, suc, ◌+◌, ◌≤◌}
 use native.Mathlib.Omega.{arith}
 use mathlib.Core.List.{List, [], ◌∷◌, ◌++◌, append-nil, append_assoc}
 use lib.Dec.{eqb, leb}
@@ -17,10 +17,10 @@ use Rattle.commands.specs.Bytes.{joined, operands_in}
 use Rattle.commands.specs.Cause.{all_in_range}
 use Rattle.commands.specs.declared.row.TableRow.{TableRow as CodeRow}
 use Rattle.commands.specs.declared.command.Operands.{Operands}
-use Rattle.commands.specs.inner.Table.{code_operand, operand_at, code_row, code_size, code_values, values_in, FitsCode}
+use Rattle.commands.specs.inner.Table.{code_operand, operand_at, code_row, code_size, code_values, values_in}
 use Rattle.commands.specs.inner.Table.{in_range_code, ranges_hold_code, Widths, Width, none, word, long, quad}
 use Rattle.commands.specs.declared.row.WindowStart.{WindowStart}
-use Rattle.commands.specs.declared.row.WindowStart.TheVariants.{NoWindow, From}
+use Rattle.commands.specs.declared.row.WindowStart.TheVariants.{NoWindow}
 
 -- ---- the rows
 
@@ -32,16 +32,11 @@ all_wide : List CommandOperand → Bool
 all_wide [] = true
 all_wide (o ∷ os) = wide (width_in o) && all_wide os
 
--- a window's start and length have two bytes
-windowed : WindowStart → List CommandOperand → Bool
-windowed NoWindow os = true
-windowed (From least) os = eqb (operand_at os 0).width 2 && eqb (operand_at os 1).width 2
-
 -- what the code takes for granted of a row: at most four operands of such widths, of at most ten bytes
 taken : CommandRow → Bool
 taken r =
     let os = r.operands in
-    leb (length os) 4 && (all_wide os && (leb (size_of os) 10 && windowed r.window os))
+    leb (length os) 4 && (all_wide os && leb (size_of os) 10)
 
 all_taken : List CommandRow → Bool
 all_taken [] = true
@@ -51,7 +46,7 @@ abbrev blank_row : CommandRow
 blank_row = record { stage = 0; window = NoWindow; operands = [] }
 
 taken_at : (rs : List CommandRow) → all_taken rs ≡ true → (b : ℕ) → taken (get_or rs b blank_row) ≡ true
-unfolding taken all_taken all_wide windowed
+unfolding taken all_taken all_wide
 taken_at [] e b = refl
 taken_at (r ∷ rs) e zero = ((and-eq-true_iff _ _).0 e).0
 taken_at (r ∷ rs) e (suc b) = taken_at rs ((and-eq-true_iff (taken r) _).0 e).1 b
@@ -60,16 +55,14 @@ record Taken (b : ℕ) : Type 0 where
   short : length (layout_of b) ≤ 4
   wides : all_wide (layout_of b) ≡ true
   sized : size_of (layout_of b) ≤ 10
-  windows : windowed (row_of b).window (layout_of b) ≡ true
 
 -- the test of the whole table
 row_taken : (b : ℕ) → Taken b
-unfolding taken all_taken all_wide wide windowed
+unfolding taken all_taken all_wide wide
 row_taken b =
     let t = (and-eq-true_iff (leb (length (layout_of b)) 4) _).0 (taken_at command_rows refl b) in
     let u = (and-eq-true_iff (all_wide (layout_of b)) _).0 t.1 in
-    let v = (and-eq-true_iff (leb (size_of (layout_of b)) 10) _).0 u.1 in
-    record { short = leb-true _ _ t.0; wides = u.0; sized = leb-true _ _ v.0; windows = v.1 }
+    record { short = leb-true _ _ t.0; wides = u.0; sized = leb-true _ _ u.1 }
 
 pub row_short : (b : ℕ) → length (layout_of b) ≤ 4
 row_short b = (row_taken b).short
@@ -100,12 +93,6 @@ operand_width_at (o ∷ os) e (suc i) = operand_width_at os ((and-eq-true_iff (w
 -- the width of each operand of a row is one that the code reads and writes
 pub row_width : (b i : ℕ) → Width (operand_at (layout_of b) i).width
 row_width b i = operand_width_at (layout_of b) (row_taken b).wides i
-
-pub last_width : (w : ℕ) → Width w → (w ≡ 0 → ⊥) → (w ≡ 2 → ⊥) → (w ≡ 4 → ⊥) → w ≡ 8
-last_width w none z t f = absurd (z refl)
-last_width w word z t f = absurd (t refl)
-last_width w long z t f = absurd (f refl)
-last_width w quad z t f = refl
 
 -- ---- four operands for those of a row
 
@@ -183,23 +170,6 @@ ranges_code (one {o} (one {o = p} (one {o = q} (one {o = r} nothing)))) l h =
     simp (in_range_by_code o _ h.0, in_range_by_code p _ h.1, in_range_by_code q _ h.2, in_range_by_code r _ h.3, and-true)
 ranges_code (one (one (one (one (one m))))) l h = absurd (omega arith)
 
--- ---- windows
-
-abbrev pub OperandsOfWindow : WindowStart → Operands → Type 0
-OperandsOfWindow NoWindow v = Unit
-OperandsOfWindow (From least) v = (v.first < 65536) × (v.second < 65536)
-
-two_bytes : (w v : ℕ) → w ≡ 2 → v < 256 ^ w → v < 65536
-two_bytes w v e h = rw e at h
-
-window_fits : (x : WindowStart) (os : List CommandOperand) → windowed x os ≡ true → (v : Operands)
-    → v.first < 256 ^ (operand_at os 0).width → v.second < 256 ^ (operand_at os 1).width → OperandsOfWindow x v
-unfolding windowed
-window_fits NoWindow os t v f g = tt
-window_fits (From least) os t v f g =
-    let e = (and-eq-true_iff _ _).0 t in
-    (two_bytes _ _ (eqb-true _ _ e.0) f, two_bytes _ _ (eqb-true _ _ e.1) g)
-
 -- ---- a row of the code, and values of the code
 
 module _ (b : ℕ) (row : CodeRow) (e : row ≡ code_row (row_of b)) where
@@ -215,14 +185,6 @@ module _ (b : ℕ) (row : CodeRow) (e : row ≡ code_row (row_of b)) where
 
   pub row_values : (s : List ℕ) → values_in row s ≡ code_values (operands_in (layout_of b) s)
   row_values s = rw e (values_code (row_of b).stage (row_of b).window (layout_of b) s (row_short b))
-
-  pub row_fits : (v : Operands) → FitsCode row v → FitsCode (code_row (row_of b)) v
-  row_fits v f = subst (λ (r : CodeRow). FitsCode r v) e f
-
-  pub row_window : (v : Operands) → FitsCode row v → OperandsOfWindow row.window v
-  row_window v f =
-      let fits = row_fits v f in
-      rw e (window_fits (row_of b).window (layout_of b) (row_taken b).windows v fits.0 fits.1)
 
   module _ (vs : List ℕ) (same : length vs ≡ length (layout_of b)) (v : Operands) (f : v ≡ code_values vs) where
     pub row_joined :

@@ -11,7 +11,6 @@ use Rattle.commands.specs.declared.row.WindowStart.TheVariants.{NoWindow, From}
 use Rattle.commands.specs.declared.command.HeaderCommand.{HeaderCommand}
 use Rattle.commands.specs.declared.command.HeaderCommand.TheVariants.{Code, Data, Stack, Entry, Home}
 use Rattle.commands.specs.declared.command.Command.{Command}
-use Rattle.commands.specs.declared.command.Command.TheVariants as Command
 use Rattle.commands.specs.declared.header.Header.{Header}
 use Rattle.commands.specs.declared.progress.Progress.{Progress}
 

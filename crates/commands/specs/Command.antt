@@ -8,7 +8,6 @@ use Rattle.commands.specs.declared.command.Claim.{Claim}
 use Rattle.commands.specs.declared.command.HeaderCommand.{HeaderCommand}
 use Rattle.commands.specs.declared.command.HeaderCommand.TheVariants.{Code, Data, Stack, Entry, Home}
 use Rattle.commands.specs.declared.command.Command.{Command}
-use Rattle.commands.specs.declared.command.Command.TheVariants as Command
 
 abbrev pub header_byte_of : HeaderCommand → ℕ
 header_byte_of (Code w) = 0x01

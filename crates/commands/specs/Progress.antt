@@ -6,7 +6,6 @@ use Rattle.commands.specs.Bytes.{width_of}
 use Rattle.commands.specs.Command.{stage_of}
 use Rattle.commands.specs.Header.{blank_header, header_with}
 use Rattle.commands.specs.declared.command.Command.{Command}
-use Rattle.commands.specs.declared.command.Command.TheVariants as Command
 use Rattle.commands.specs.declared.header.Header.{Header}
 use Rattle.commands.specs.declared.progress.Progress.{Progress}
 

@@ -1,0 +1,89 @@
+-- `parse::parse` meets its contract: the slice is its first byte and the part after it, which is lent to `operands_in`.
+-- Assumes nothing.
+use mathlib.Core.Path.{◌≡◌, sym, ap, ◌∙◌}
+use Prim.Native.Nat.{ℕ, ◌-◌, ◌≤◌, ◌<◌}
+use mathlib.Core.List.{List}
+use borrow.Author.Tests.{lt-ltb, le-ltb, le-leb, lt-leb}
+use native.Mathlib.Omega.{arith}
+use lib.ListN.{length, get_or, take, drop, length-drop}
+use lib.Seq.{take_all, drop-cons}
+use Rattle.commands.specs.Bytes.{command_of, parse_of}
+use Rattle.commands.specs.Command.{command_with}
+use Rattle.commands.specs.inner.Table.{code_row, code_size, values_in, values_of}
+use Rattle.commands.specs.Rows.{command_rows, row_of}
+use Rattle.commands.specs.declared.command.Command.{Command}
+use Rattle.commands.specs.declared.command.Operands.{Operands}
+use Rattle.commands.specs.declared.parse.ParsedCommand.TheVariants.{Unknown, Cut, Found}
+use Rattle.commands.specs.declared.row.TableRow.{TableRow as CodeRow}
+use Rattle.commands.proofs.Table.{row_sizes, row_small, row_widths, row_values}
+use Rattle.commands.proofs.parse.parse.Goals as goal
+
+nothing_left : (s : List ℕ) → length s ≡ 0 → Cut ≡ parse_of s
+unfolding parse_of
+nothing_left s e = ap parse_of (take_all 0 s (omega arith))
+
+-- a byte is left
+module _ (s : List ℕ) (left : 0 < length s) where
+  abbrev byte : ℕ
+  byte = get_or s 0 0
+
+  unknown : length command_rows ≤ byte → Unknown ≡ parse_of s
+  unfolding parse_of
+  unknown h = sym (ap parse_of (drop-cons s 0 0 left) ∙ simp (le-ltb byte (length command_rows) h))
+
+  -- it has this row
+  module _ (known : byte < length command_rows) (row : CodeRow) (is_row : row ≡ code_row (row_of byte)) where
+    cut : length s - 1 < code_size row → Cut ≡ parse_of s
+    unfolding parse_of
+    cut h =
+        sym (
+        ap parse_of (drop-cons s 0 0 left)
+        ∙ simp (
+          lt-ltb byte (length command_rows) known,
+          ← row_sizes byte row is_row,
+          length-drop,
+          lt-leb _ _ h,
+        ))
+
+    -- and its operands are those that the part after it begins with
+    found : code_size row ≤ length s - 1 → (v : Operands) → v ≡ values_in row (drop 1 s) → (c : Command)
+        → c ≡ command_with byte (values_of v) → Found c ≡ parse_of s
+    unfolding parse_of command_of
+    found h v e c f =
+        let made : c ≡ command_of byte (drop 1 s) =
+        f ∙ ap (λ (v : Operands). command_with byte (values_of v)) (e ∙ row_values byte row is_row (drop 1 s)) in
+        sym (
+        ap parse_of (drop-cons s 0 0 left)
+        ∙ simp (
+          lt-ltb byte (length command_rows) known,
+          ← row_sizes byte row is_row,
+          length-drop,
+          le-leb _ _ h,
+          made,
+        ))
+
+pub returns-then-s-eq0 : goal.returns-then-s-eq0
+returns-then-s-eq0 c = nothing_left c.args.s.now (omega arith)
+
+pub returns-then-b-ge-COMMANDS : goal.returns-then-b-ge-COMMANDS
+returns-then-b-ge-COMMANDS c = unknown c.args.s.now (omega arith) (omega arith)
+
+pub returns-then-s-size : goal.returns-then-s-size
+returns-then-s-size c =
+    cut c.args.s.now (omega arith) (omega arith) c.row_of-row.result c.row_of-row.ensures (omega arith)
+
+pub size-requires : goal.size-requires
+size-requires c = row_small _ _ c.row_of-row.ensures
+
+pub operands_in-requires : goal.operands_in-requires
+operands_in-requires c =
+    let e = c.row_of-row.ensures in
+    (row_widths _ _ e, omega (arith, length-drop {A = ℕ}), row_small _ _ e)
+
+pub returns : goal.returns
+returns c =
+    let s = c.args.s.now in
+    let part : take (length s - 1) (drop 1 s) ≡ drop 1 s =
+    take_all (length s - 1) (drop 1 s) (omega (arith, length-drop 1 s)) in
+    found s (omega arith) (omega arith) c.row_of-row.result c.row_of-row.ensures (omega arith)
+    c.operands_in.result (rw part at c.operands_in.ensures.0) _ c.command_with.ensures

@@ -1,0 +1,10 @@
+-- `greater` meets its contract.
+-- Assumes nothing.
+use borrow.Author.Tests.{lt-ltb, le-ltb}
+use Rattle.text.proofs.summary.greater.Goals as goal
+
+pub returns-then-b-a : goal.returns-then-b-a
+returns-then-b-a c = simp (lt-ltb _ _ c.if-b-a.true)
+
+pub returns-else-b-a : goal.returns-else-b-a
+returns-else-b-a c = simp (le-ltb _ _ c.if-b-a.false)
