@@ -3,8 +3,8 @@ rules alike, must be refused by the proof of another that needs it.
 
 Each *.edit beside this file has a line 'refused in: CRATE FILE DECLARATION', then blocks as a must-fail edit has them,
 with files from the repository's root; '\\n' in what is new ends a line. On a copy of the tree the edit is made and the
-crate is checked; what is proved already and does not change the toolchain takes from other copies on this machine. Every
-crate before it must be proved, and its first error must be the declaration's."""
+crate is checked; what is proved already and does not change the toolchain takes from other copies on this machine.
+Every crate before it must be proved, and its first error must be the declaration's."""
 import re
 import shutil
 import subprocess
