@@ -15,7 +15,6 @@ use Rattle.commands.specs.Cause.{command_cause_of}
 use Rattle.commands.specs.Progress.{initial_progress, after_of, ended}
 use Rattle.ticket.specs.declared.fields.Mark.{Mark}
 use Rattle.ticket.specs.declared.reader.NextCommand.{NextCommand}
-use Rattle.ticket.specs.declared.reader.NextCommand.TheVariants as NextCommand
 use Rattle.ticket.specs.Fields.{Fields, read, refused, marks_with, in_file_order}
 use Rattle.ticket.specs.Read.{next_command_of, end_of, ReadRest, read_onward, if_ended, read_from, read_of}
 use Rattle.ticket.proofs.Turned.{turned}

@@ -7,7 +7,6 @@ use mathlib.Core.List.{List, [], ◌∷◌, ◌++◌}
 use lib.ListN.{get_or}
 use Rattle.commands.specs.declared.header.Header.{Header}
 use Rattle.commands.specs.declared.command.Command.{Command}
-use Rattle.commands.specs.declared.command.Command.TheVariants as Command
 use Rattle.commands.specs.Every.{none, more}
 use Rattle.commands.specs.Header.{required_commands, header_commands}
 use Rattle.commands.specs.Fits.{Fits}

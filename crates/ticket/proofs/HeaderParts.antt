@@ -15,7 +15,6 @@ use Rattle.commands.specs.Every.{none, more}
 use Rattle.commands.specs.Fits.{Fits}
 use Rattle.commands.specs.declared.header.Header.{Header}
 use Rattle.commands.specs.declared.command.Command.{Command}
-use Rattle.commands.specs.declared.command.Command.TheVariants as Command
 use Rattle.commands.specs.declared.admit.Admitted.{Admitted}
 use Rattle.commands.proofs.Coding.{length_encode}
 use Rattle.ticket.specs.Write.{encode_all, all_then}

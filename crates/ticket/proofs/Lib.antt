@@ -1,7 +1,6 @@
 pub mod Snoc
 mod Own
 pub mod Fitting
-pub mod MarkIndex
 pub mod Stage
 pub mod Step
 pub mod Kept

@@ -10,7 +10,6 @@ use borrow.Author.Tests.{lt-ltb}
 use Rattle.ticket.specs.declared.fields.Mark.{Mark}
 use Rattle.ticket.specs.declared.fields.Ticket.{Ticket}
 use Rattle.ticket.specs.declared.answer.ReadAnswer.{ReadAnswer}
-use Rattle.ticket.specs.declared.answer.ReadAnswer.TheVariants as ReadAnswer
 use Rattle.ticket.specs.declared.answer.Reading.{Reading}
 use Rattle.ticket.specs.Fields.{Fields, ReadOutcome, read, refused, blank_mark, listed, ticket_of}
 use Rattle.ticket.specs.Fields.{fields_of, reading_of}

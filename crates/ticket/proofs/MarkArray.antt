@@ -7,7 +7,6 @@ use mathlib.Core.List.{List, [], ◌∷◌, ◌++◌}
 use lib.ListN.{length, get_or, set, replicate, length-append}
 use lib.Seq.{append_snoc, set-append_seam, set-get_or}
 use Rattle.commands.specs.declared.command.Command.{Command}
-use Rattle.commands.specs.declared.command.Command.TheVariants as Command
 use Rattle.commands.specs.declared.progress.Progress.{Progress}
 use Rattle.commands.specs.Progress.{after_of}
 use Rattle.ticket.specs.declared.fields.Mark.{Mark}

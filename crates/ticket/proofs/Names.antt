@@ -13,7 +13,6 @@ use borrow.Author.Tests.{le-leb}
 use Rattle.answers.specs.declared.Refusal.{Refusal}
 use Rattle.commands.specs.declared.header.Header.{Header}
 use Rattle.commands.specs.declared.command.Command.{Command}
-use Rattle.commands.specs.declared.command.Command.TheVariants as Command
 use Rattle.commands.specs.declared.admit.Admitted.TheVariants.{Next}
 use Rattle.commands.specs.Header.{required_commands}
 use Rattle.commands.specs.Bytes.{encode_of, width_of, parse_of}

@@ -9,7 +9,6 @@ use native.Mathlib.Omega.{arith}
 use lib.ListN.{length, length-append}
 use borrow.Author.Tests.{not-true}
 use Rattle.commands.specs.declared.command.Command.{Command}
-use Rattle.commands.specs.declared.command.Command.TheVariants as Command
 use Rattle.answers.specs.declared.Refusal.{Refusal}
 use Rattle.commands.specs.declared.header.Header.{Header}
 use Rattle.commands.specs.declared.progress.Progress.{Progress}
@@ -68,7 +67,7 @@ shorter : (c : Command) (s : List ℕ) (n : ℕ) → length (encode_of c ++ s) <
 shorter c s n l = omega (arith, length-append (encode_of c) s, length_encode c, width_positive c)
 
 -- every command has a byte or more, so more turns than bytes are enough
-read_all : {b : Bool} {cs : List Command} (n : ℕ) (p : Progress) (ms : List Mark) → Closed b cs → AllFit cs →
+read_all : (n : ℕ) (p : Progress) (ms : List Mark) {b : Bool} {cs : List Command} → Closed b cs → AllFit cs →
     ended p ≡ b → length (encode_all cs) < n → read_from n p ms (encode_all cs)
     ≡ answered (all_then (Next p) cs) (kept_of p.header ms cs)
 unfolding read_from

@@ -12,7 +12,6 @@ use lib.ListN.{length, take, length-append}
 use lib.Seq.{take_all}
 use borrow.Author.Tests.{eqb-true, ne_eqb}
 use Rattle.commands.specs.declared.command.Command.{Command}
-use Rattle.commands.specs.declared.command.Command.TheVariants as Command
 use Rattle.commands.specs.declared.command.HeaderCommand.{HeaderCommand}
 use Rattle.commands.specs.declared.header.Header.{Header}
 use Rattle.commands.specs.declared.progress.Progress.{Progress}

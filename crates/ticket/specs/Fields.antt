@@ -3,14 +3,12 @@
 -- Assumes nothing.
 use Rattle.std.specs.Prelude.{ℕ, zero, suc, ◌-◌, cond, List, [], ◌∷◌, ◌++◌, ltb, length, get_or, replicate}
 use Rattle.commands.specs.declared.command.Command.{Command}
-use Rattle.commands.specs.declared.command.Command.TheVariants as Command
 use Rattle.answers.specs.declared.Refusal.{Refusal}
 use Rattle.commands.specs.declared.header.Header.{Header}
 use Rattle.commands.specs.Header.{blank_header}
 use Rattle.ticket.specs.declared.fields.Mark.{Mark}
 use Rattle.ticket.specs.declared.fields.Ticket.{Ticket}
 use Rattle.ticket.specs.declared.answer.ReadAnswer.{ReadAnswer}
-use Rattle.ticket.specs.declared.answer.ReadAnswer.TheVariants as ReadAnswer
 use Rattle.ticket.specs.declared.answer.Reading.{Reading}
 
 pub record Fields : Type 0 where

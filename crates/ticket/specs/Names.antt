@@ -3,7 +3,6 @@
 -- Assumes nothing.
 use Rattle.std.specs.Prelude.{ℕ, zero, suc, ◌≡◌, Bool, true, false, cond, not, ◌&&◌, List, [], ◌∷◌, length, drop}
 use Rattle.commands.specs.declared.command.Command.{Command}
-use Rattle.commands.specs.declared.command.Command.TheVariants as Command
 use Rattle.commands.specs.declared.parse.ParsedCommand.{ParsedCommand}
 use Rattle.commands.specs.declared.parse.ParsedCommand.TheVariants.{Unknown, Cut, Found}
 use Rattle.commands.specs.Bytes.{parse_of, width_of}

@@ -8,13 +8,11 @@ use Rattle.commands.specs.declared.parse.ParsedCommand.{ParsedCommand}
 use Rattle.commands.specs.declared.parse.ParsedCommand.TheVariants.{Unknown, Cut, Found}
 use Rattle.commands.specs.declared.progress.Progress.{Progress}
 use Rattle.commands.specs.declared.admit.Admitted.{Admitted}
-use Rattle.commands.specs.declared.admit.Admitted.TheVariants as Admitted
 use Rattle.commands.specs.Bytes.{parse_of, width_of}
 use Rattle.commands.specs.Progress.{initial_progress, ended}
 use Rattle.commands.specs.Admit.{admit_of}
 use Rattle.ticket.specs.declared.fields.Mark.{Mark}
 use Rattle.ticket.specs.declared.reader.NextCommand.{NextCommand}
-use Rattle.ticket.specs.declared.reader.NextCommand.TheVariants as NextCommand
 use Rattle.ticket.specs.Fields.{ReadOutcome, read, refused, marks_with, in_file_order}
 
 abbrev pub refusal : ℕ → ℕ → Refusal

@@ -4,7 +4,6 @@
 -- Assumes nothing.
 use Rattle.std.specs.Prelude.{ℕ, cond, List, [], ◌∷◌, ◌++◌, leb, length, drop}
 use Rattle.commands.specs.declared.command.Command.{Command}
-use Rattle.commands.specs.declared.command.Command.TheVariants as Command
 use Rattle.commands.specs.declared.admit.Admitted.{Admitted}
 use Rattle.commands.specs.declared.admit.Admitted.TheVariants.{Refused, Next}
 use Rattle.commands.specs.Header.{header_commands}
@@ -13,7 +12,6 @@ use Rattle.commands.specs.Progress.{initial_progress}
 use Rattle.commands.specs.Admit.{then_of}
 use Rattle.ticket.specs.declared.fields.Mark.{Mark}
 use Rattle.ticket.specs.declared.answer.Written.{Written}
-use Rattle.ticket.specs.declared.answer.Written.TheVariants as Written
 use Rattle.ticket.specs.Fields.{Fields}
 
 abbrev pub mark_command : Mark → Command

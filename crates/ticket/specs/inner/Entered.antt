@@ -1,7 +1,6 @@
 -- The latest mark after a command, as the reader keeps it in its array. An inner matter of the code.
 -- Assumes nothing.
 use Rattle.commands.specs.declared.command.Command.{Command}
-use Rattle.commands.specs.declared.command.Command.TheVariants as Command
 use Rattle.ticket.specs.declared.fields.Mark.{Mark}
 
 -- as `marks_with` of the latest mark alone

@@ -1,12 +1,7 @@
 -- `refused` meets its contract: the ticket of no fields is blank.
 -- Assumes nothing.
-use borrow.Author.Rules.{rules}
 use Rattle.ticket.specs.Fields.{ticket_of}
 use Rattle.ticket.proofs.reader.refused.Goals as goal
-
-pub blank-requires : goal.blank-requires
-unfolding ticket_of
-blank-requires c = search rules
 
 pub returns : goal.returns
 unfolding ticket_of

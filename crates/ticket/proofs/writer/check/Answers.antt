@@ -1,50 +1,37 @@
--- `check` meets its contract. The invariant of its loop: `a` is what the checks of the first i marks give after the
--- header's, it is sound so far, and these marks fit. The measure is how many marks are left.
+-- `check` meets its contract: the header's commands, the marks' one after another, and the end.
 -- Assumes nothing.
-use borrow.Author.Rules.{rules}
 use mathlib.Core.Path.{◌≡◌, refl}
-use Prim.Native.Nat.{◌-◌, ◌≤◌}
 use native.Mathlib.Omega.{arith}
 use lib.ListN.{get_or}
 use Rattle.commands.specs.declared.admit.Admitted.TheVariants.{Next}
 use Rattle.commands.specs.Every.{none}
+use Rattle.commands.specs.Header.{header_commands}
 use Rattle.commands.specs.Progress.{initial_progress}
-use Rattle.commands.specs.inner.Sound.{SoundSoFar, sound}
+use Rattle.commands.specs.inner.Sound.{sound}
 use Rattle.commands.specs.Admit.{then_of}
 use Rattle.commands.proofs.Sound.{sound_start, sound_then}
-use Rattle.ticket.specs.Fields.{blank_mark, mark_index, listed, fields_of}
-use Rattle.commands.specs.Header.{header_commands}
-use Rattle.ticket.specs.Write.{mark_command, mark_commands, all_then}
-use Rattle.ticket.specs.RoundTrip.{AllFit}
+use Rattle.ticket.specs.Fields.{blank_mark, mark_index, fields_of}
+use Rattle.ticket.specs.Write.{mark_command}
 use Rattle.ticket.proofs.Fitting.{fit_listed, fit_ticket}
-use Rattle.ticket.proofs.MarkIndex.{mark_index_below}
 use Rattle.ticket.proofs.Checks.{sound_all, all_listed, all_checked}
 use Rattle.ticket.proofs.writer.check.Goals as goal
 
 pub loop-i-init : goal.loop-i-init
-loop-i-init c = let h = c.args.t.header in (
-  rw c.header_checked-a.ensures.0 (sound_all (Next initial_progress) (header_commands h) (sound sound_start)),
-  refl,
-  none,
-  omega arith,
-)
-
-pub bounds-marks-j : goal.bounds-marks-j
-bounds-marks-j c = rw c.mark_index-j.ensures (mark_index_below c.loop-i.i)
-
-pub offset_bounds-marks-j : goal.offset_bounds-marks-j
-offset_bounds-marks-j c = record { fits = omega (arith, array-copy-out-m c {-After_mark_index-}) }
-
-pub then-a-requires : goal.then-a-requires
-then-a-requires c = c.loop-i.invariant.0
+loop-i-init c =
+    let h = c.args.t.header in (
+      rw c.header_checked-a.ensures.0 (sound_all (Next initial_progress) (header_commands h) (sound sound_start)),
+      refl,
+      none,
+      omega arith,
+    )
 
 pub loop-i-preserved : goal.loop-i-preserved
-loop-i-preserved c = let l = c.loop-i in
+loop-i-preserved c =
+    let l = c.loop-i in
     let ms = c.args.t.marks in
     let m = get_or ms (mark_index l.i) blank_mark in
     let place = c.mark_index-j.ensures in
-    let command : c.mark_command.result ≡ mark_command m =
-    simp (c.mark_command.ensures.0, place) in
+    let command : c.mark_command.result ≡ mark_command m = simp (c.mark_command.ensures.0, place) in
     let next : c.then-a.result ≡ then_of l.a (mark_command m) = simp (c.then-a.ensures, command) in (
       rw next (sound_then l.a (mark_command m) l.invariant.0),
       rw (next, all_listed, ← l.invariant.1),
@@ -52,12 +39,10 @@ loop-i-preserved c = let l = c.loop-i in
       omega arith,
     )
 
-pub then-requires : goal.then-requires
-then-requires c = c.loop-i.invariant.0
-
 pub returns : goal.returns
 unfolding fields_of
-returns c = let l = c.loop-i in
+returns c =
+    let l = c.loop-i in
     let t = c.args.t in
     let head = c.header_checked-a.ensures in
     let all : l.i ≡ t.count = omega arith in (

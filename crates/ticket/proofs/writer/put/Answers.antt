@@ -1,18 +1,13 @@
--- `put` puts the header, the marks one after another and the end. The loop's invariant: the marks so far are put after
--- the header, and the output is as long as it was.
+-- `put` puts the header, the marks one after another and the end.
 -- Assumes nothing.
 use mathlib.Core.Path.{◌≡◌, refl}
-use Prim.Native.Nat.{◌-◌, ◌≤◌}
 use native.Mathlib.Omega.{arith}
 use native.Mathlib.Numerals.{add-one}
-use lib.ListN.{length}
-use borrow.Author.Rules.{rules}
 use Rattle.commands.specs.declared.command.Command.TheVariants as Command
 use Rattle.commands.specs.Bytes.{width_of}
 use Rattle.commands.specs.Header.{header_commands}
+use Rattle.lists.proofs.Splice.{placed_none, placed_next}
 use Rattle.ticket.specs.Write.{encode_all}
-use Rattle.ticket.proofs.MarkIndex.{mark_index_below}
-use Rattle.lists.proofs.Splice.{Placed, placed_none, placed_next}
 use Rattle.ticket.proofs.Placed.{placed_command}
 use Rattle.ticket.proofs.Parts.{marks_bytes, marks_more, end_room, mark_room, ticket_parts}
 use Rattle.ticket.proofs.writer.put.Goals as goal
@@ -23,25 +18,18 @@ put_header-at-requires c = omega (arith, end_room c.args.t 0 (omega arith))
 pub loop-i-init : goal.loop-i-init
 loop-i-init c = (placed_none _ _, omega arith, refl)
 
-pub offset_bounds-marks-j : goal.offset_bounds-marks-j
-offset_bounds-marks-j c = omega (arith, mark_index_below c.loop-i.i)
-
-pub bounds-marks-j : goal.bounds-marks-j
-bounds-marks-j c = omega (arith, mark_index_below c.loop-i.i)
-
 pub put_command-at-requires : goal.put_command-at-requires
 unfolding width_of
-put_command-at-requires c = rw c.mark_command.ensures.0 (omega (
-  arith,
-  mark_room
-      c.args.t c.loop-i.i
-      c.mark_index-j.ensures c.loop-i-test.true,
-))
+put_command-at-requires c =
+    rw c.mark_command.ensures.0 (omega (
+      arith,
+      mark_room c.args.t c.loop-i.i c.mark_index-j.ensures c.loop-i-test.true,
+    ))
 
 pub loop-i-preserved : goal.loop-i-preserved
-loop-i-preserved c = let at-loop = c {-At_loop-} in
-    let l = at-loop.loop in
-    let t = at-loop.before.before.before.before.before.before.before.before.before.args.t in
+loop-i-preserved c =
+    let l = c.loop-i in
+    let t = c.args.t in
     let e = c.mark_index-j.ensures in
     let room = mark_room t l.i e c.loop-i-test.true in
     let put = rw c.mark_command.ensures.0 at c.put_command-at.ensures in (
@@ -52,23 +40,17 @@ loop-i-preserved c = let at-loop = c {-At_loop-} in
 
 pub put_command-requires : goal.put_command-requires
 unfolding width_of
-put_command-requires c = omega (
-  arith,
-  end_room
-      c.args.t
-      c.loop-i.i (omega arith),
-)
+put_command-requires c = omega (arith, end_room c.args.t c.loop-i.i (omega arith))
 
 pub returns : goal.returns
 unfolding width_of
-returns c = let at-loop = c {-At_loop-} in
-    let l = at-loop.loop in
-    let start = at-loop.before.before.before.before.before.before.before.before.before in
-    let t = start.args.t in
-    let head = at-loop.before.before.before.put-header in
+returns c =
+    let l = c.loop-i in
+    let t = c.args.t in
+    let head = c.put_header-at in
     let room = end_room t l.i (omega arith) in
     let p₁ =
-    placed_next {m = head.result} (placed_none start.args.out.now 0) (omega arith)
+    placed_next {m = head.result} (placed_none c.args.out.now 0) (omega arith)
     (encode_all (header_commands t.header)) (head.ensures.0, omega arith) in
     let p₂ = placed_next p₁ (omega arith) (marks_bytes t.marks l.i) (l.invariant.0.bytes, l.invariant.0.end) in
     let p₃ = placed_command p₂ (omega arith) Command.End c.put_command.ensures in
