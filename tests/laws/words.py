@@ -3,9 +3,9 @@
 A statement is the law's signature with the parameters of the modules around it, and with it, as far as names lead,
 - every type and proposition (a record, a data type, a definition whose signature ends in `Type`),
 - and every other definition that the code is not held to: one of proofs/, or one of specs/ that no contract computes
-  with, directly or through others. What stands inside a contract's proposition alone, as `inUseAfter` in demand 3, is
+  with, directly or through others. What stands inside a contract's proposition alone, as `in_use_after` in demand 3, is
   one: the code would meet its contract with another, too.
-What a contract computes with, as `stepOf`, is not followed: the code holds it. Of it, and of a library's name, only
+What a contract computes with, as `step_of`, is not followed: the code holds it. Of it, and of a library's name, only
 where it comes from belongs to the words. White space and comments do not count.
 """
 import hashlib
