@@ -23,7 +23,8 @@ too_short (c ∷ cs) (d ∷ ds) h = rw (too_short cs ds (omega arith)) (none (eq
 
 -- the next byte
 pub next_byte : (p s : List ℕ) (i : ℕ) → i < length p → i < length s →
-    starts_with (drop i p) (drop i s) ≡ (eqb (get_or s i 0) (get_or p i 0) && starts_with (drop (i + 1) p) (drop (i + 1) s))
+    starts_with (drop i p) (drop i s)
+    ≡ (eqb (get_or s i 0) (get_or p i 0) && starts_with (drop (i + 1) p) (drop (i + 1) s))
 unfolding starts_with
 next_byte p s i h k = rw (drop-cons p i 0 h, drop-cons s i 0 k, add-one)
 

@@ -15,7 +15,8 @@ use Rattle.rules.specs.Checks.{checks_at, verdict_on, verdict_of}
 use Rattle.cases.specs.Table.{memory_with, AllHold, routine_p, ticket_p, cases, lowest_cases}
 
 pub proved : AllHold cases
-unfolding cases routine_p ticket_p memory_with step_of step_now run_of run_now verdict_of read_of read_from next_command_of admit_of
+unfolding cases routine_p ticket_p memory_with step_of step_now run_of run_now verdict_of read_of read_from
+    next_command_of admit_of
     width_of command_of parse_of ranges_hold command_cause_of after_of verdict_on checks_at shape_of instruction_size
 proved = (refl, (refl, (refl, (refl, (refl, (refl, (refl, (refl, (refl, (refl, (refl, (refl, tt))))))))))))
 

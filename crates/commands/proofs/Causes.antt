@@ -39,7 +39,8 @@ module _ (stage n : ℕ) where
   comes : may_come stage n ≡ true → Comes stage n
   comes t = by_tests (eqb stage n) (leb required_length stage) (ltb stage n) refl refl refl t
 
-pub in_order_parts : (p : Progress) (c : Command) → in_order p c ≡ true → Comes p.stage (stage_of c) × (follows p c ≡ true)
+pub in_order_parts : (p : Progress) (c : Command) → in_order p c ≡ true → Comes p.stage (stage_of c)
+    × (follows p c ≡ true)
 in_order_parts p c e =
     let o = (and-eq-true_iff (may_come p.stage (stage_of c)) _).0 e in (comes p.stage (stage_of c) o.0, o.1)
 

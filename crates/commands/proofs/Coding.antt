@@ -49,7 +49,8 @@ length_joined (one m) = simp (length-append, length_digits, length_joined m)
 
 pub length_encode : (c : Command) → length (encode_of c) ≡ width_of c
 unfolding encode_of width_of
-length_encode c = omega (arith, length_joined (matched (layout_of (command_byte_of c)) (operands_of c) (said c).as_many))
+length_encode c =
+    omega (arith, length_joined (matched (layout_of (command_byte_of c)) (operands_of c) (said c).as_many))
 
 pub width_positive : (c : Command) → 1 ≤ width_of c
 unfolding width_of

@@ -143,7 +143,8 @@ joined_code (one (one (one (one (one m))))) l = absurd (omega arith)
 
 -- ---- ranges
 
-in_range_by_code : (o : CommandOperand) (v : ℕ) → v ≤ 0xffffffffffffffff → in_range_code (code_operand o) v ≡ in_range o v
+in_range_by_code : (o : CommandOperand) (v : ℕ) → v ≤ 0xffffffffffffffff → in_range_code (code_operand o) v
+    ≡ in_range o v
 in_range_by_code (any w) v h = simp (le-leb 0 v (omega arith), le-leb _ _ h)
 in_range_by_code (within w l m) v h = refl
 in_range_by_code (text w) v h = refl
@@ -167,7 +168,13 @@ ranges_code (one {o} (one {o = p} nothing)) l h = simp (in_range_by_code o _ h.0
 ranges_code (one {o} (one {o = p} (one {o = q} nothing))) l h =
     simp (in_range_by_code o _ h.0, in_range_by_code p _ h.1, in_range_by_code q _ h.2)
 ranges_code (one {o} (one {o = p} (one {o = q} (one {o = r} nothing)))) l h =
-    simp (in_range_by_code o _ h.0, in_range_by_code p _ h.1, in_range_by_code q _ h.2, in_range_by_code r _ h.3, and-true)
+    simp (
+      in_range_by_code o _ h.0,
+      in_range_by_code p _ h.1,
+      in_range_by_code q _ h.2,
+      in_range_by_code r _ h.3,
+      and-true,
+    )
 ranges_code (one (one (one (one (one m))))) l h = absurd (omega arith)
 
 -- ---- a row of the code, and values of the code

@@ -47,7 +47,8 @@ window_of v = record { start = get_or v 0 0; length = get_or v 1 0 }
 
 abbrev pub claim_of : List ℕ → Claim
 claim_of v =
-    record { cost = record { 0 = get_or v 1 0 }; depth = record { 0 = get_or v 2 0 }; need = record { 0 = get_or v 3 0 } }
+    record
+    { cost = record { 0 = get_or v 1 0 }; depth = record { 0 = get_or v 2 0 }; need = record { 0 = get_or v 3 0 } }
 
 -- the commands with some operands, by their byte
 abbrev pub commands_with : List ℕ → List Command

@@ -48,7 +48,8 @@ module _ (at : ℕ) (r : Registers) (m : List ℕ) where
 
     pub masked : (from : ℕ) {k : ℕ} {q : Registers} {m' : List ℕ} → MasksAt a k at r m q m' →
         k ≡ byte_at m (wrapping_add from 1)
-        → (o : Operand) → Stands o r at × (ByteThere o r m at × MaskThere o m from) → Executed (effect_of a o r m) q m m'
+        → (o : Operand) → Stands o r at × (ByteThere o r m at × MaskThere o m from)
+        → Executed (effect_of a o r m) q m m'
     masked from t e o s = t o s.0 s.1.0 (s.1.1 ∙ sym e)
 
     pub tested : (from : ℕ) {v k t : ℕ} {q : Registers} → GoesOnBits a v k t r q → v ≡ byte_at m at → v < 256 →

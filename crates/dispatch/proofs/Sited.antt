@@ -8,7 +8,8 @@ use native.Mathlib.Omega.{arith}
 use Rattle.registers.specs.declared.Registers.{Registers}
 use Rattle.memory.specs.Memory.{word_at}
 use Rattle.opcodes.specs.Decode.{operand_of}
-use Rattle.opcodes.specs.inner.Fits.{memory_mode, byte_mode, word_mode, call_mode, relative_mode, mask_mode, mask_branch_mode}
+use Rattle.opcodes.specs.inner.Fits.{memory_mode, byte_mode, word_mode, call_mode, relative_mode, mask_mode}
+use Rattle.opcodes.specs.inner.Fits.{mask_branch_mode}
 use Rattle.opcodes.specs.inner.Fits.{fits}
 use Rattle.instructions.specs.Form.{address_in, target_in}
 use Rattle.opcodes.specs.declared.instruction.Action.{Action}
@@ -20,7 +21,8 @@ use Rattle.opcodes.specs.declared.instruction.Action.TheVariants.{PullWord, Des,
 use Rattle.opcodes.specs.declared.instruction.Action.TheVariants.{Test}
 use Rattle.opcodes.specs.declared.instruction.Mode.{Mode}
 use Rattle.instructions.specs.Operand.{address_of, operand_address, byte_operand, word_operand, mask_of}
-use Rattle.instructions.specs.inner.Sited.{operand_from, address_at, ByteThere, WordThere, Stands, MaskThere, OffsetThere}
+use Rattle.instructions.specs.inner.Sited.{operand_from, address_at, ByteThere, WordThere, Stands, MaskThere}
+use Rattle.instructions.specs.inner.Sited.{OffsetThere}
 use Rattle.instructions.specs.inner.Sited.{Sited}
 
 module _ (from : ℕ) (r : Registers) (m : List ℕ) where
@@ -153,7 +155,8 @@ module _ (from : ℕ) (r : Registers) (m : List ℕ) where
   tested Mode.MaskBranchX f = (λ b. refl, (refl, refl))
   tested Mode.MaskBranchY f = (λ b. refl, (refl, refl))
 
-  pub sited : (a : Action) (k : Mode) → fits a k ≡ true → Sited a (operand_from k from m) r m (address_at k from r m) from
+  pub sited : (a : Action) (k : Mode) → fits a k ≡ true
+      → Sited a (operand_from k from m) r m (address_at k from r m) from
   unfolding fits Sited
   sited (Inherent i) k f = tt
   sited (Unary u c) k f = tt

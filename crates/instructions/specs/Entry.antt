@@ -47,10 +47,12 @@ unfoldable pub entry_of : Action → Entry
 entry_of (Inherent i) = entry nothing (always Computes) (λ k v sp d. computes (inherent_of i sp d))
 -- NEGA COMA LSRA RORA ASRA ASLA LSLA ROLA DECA INCA CLRA, NEGB COMB LSRB RORB ASRB ASLB LSLB ROLB DECB INCB CLRB
 entry_of (Unary u c) =
-    entry nothing (always Computes) (λ k v sp d. computes (to_accumulator c d (unary_of u (accumulator_of c d) (codes d))))
+    entry nothing (always Computes)
+    (λ k v sp d. computes (to_accumulator c d (unary_of u (accumulator_of c d) (codes d))))
 -- TSTA TSTB
 entry_of (TstAccumulator c) =
-    entry nothing (always Computes) (λ k v sp d. computes (with_flags d (byte_of (tst_of (accumulator_of c d) (codes d)))))
+    entry nothing (always Computes)
+    (λ k v sp d. computes (with_flags d (byte_of (tst_of (accumulator_of c d) (codes d)))))
 -- SUBA CMPA SBCA ANDA BITA LDAA EORA ADCA ORAA ADDA, SUBB CMPB SBCB ANDB BITB LDAB EORB ADCB ORAB ADDB
 entry_of (Binary b c) =
     entry operand_byte (always Computes)
@@ -62,9 +64,11 @@ entry_of TstMemory =
 entry_of (LoadWord w) =
     entry operand_word (always (load_form w)) (λ k v sp d. gives v (to_word w d v (byte_of (logic16_of v (codes d)))))
 -- ADDD
-entry_of Addd = entry operand_word (always Computes) (λ k v sp d. computes (to_d d (add16_of (accumulator_d d) v (codes d))))
+entry_of Addd =
+    entry operand_word (always Computes) (λ k v sp d. computes (to_d d (add16_of (accumulator_d d) v (codes d))))
 -- SUBD
-entry_of Subd = entry operand_word (always Computes) (λ k v sp d. computes (to_d d (sub16_of (accumulator_d d) v (codes d))))
+entry_of Subd =
+    entry operand_word (always Computes) (λ k v sp d. computes (to_d d (sub16_of (accumulator_d d) v (codes d))))
 -- CPD CPX CPY
 entry_of (CompareWord w) =
     entry operand_word (always Computes)
@@ -87,7 +91,8 @@ entry_of Brset = entry operand_byte (to_target Branches) (λ k v sp d. branches 
 -- BRCLR
 entry_of Brclr = entry operand_byte (to_target Branches) (λ k v sp d. branches (none_set v k) d)
 -- BRA BRN BHI BLS BCC BHS BCS BLO BNE BEQ BVC BVS BPL BMI BGE BLT BGT BLE
-entry_of (Branch t) = entry nothing (to_target (branch_form (t % 16))) (λ k v sp d. branches (test_holds_of t (codes d)) d)
+entry_of (Branch t) =
+    entry nothing (to_target (branch_form (t % 16))) (λ k v sp d. branches (test_holds_of t (codes d)) d)
 -- JMP
 entry_of Jmp = entry nothing (at_operand Jumps) stays
 -- JSR BSR

@@ -70,7 +70,9 @@ fn own_return(d: Flow, n: u32) -> bool
 // An instruction of this flow led to the registers q in k cycles.
 fn look_after(d: Flow, l: Look, q: Registers, k: Cycles) -> Look
     requires { l.pending + 1 < 4294967296 }
-    ensures { (result ≡ look_after (flow_said d) l (done q k)) × (result.pending ≤ l.pending + 1) × (result.left ≤ l.left) }
+    ensures { (result ≡ look_after (flow_said d) l (done q k))
+        × (result.pending ≤ l.pending + 1)
+        × (result.left ≤ l.left) }
 {
     if l.left < k.0 {
         return over(l);

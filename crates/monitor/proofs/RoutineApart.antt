@@ -90,7 +90,8 @@ module _ (h p : ℕ) (rs m : List ℕ) where
   starts_apart a b n o g = sym (start_back a n) ∙ ap start_from g ∙ start_back b o
 
 module _ (p : ℕ) (slot : List ℕ) where
-  certification_back : (a : Certification) → NumberedCertification a → certification_from (of_certification a p slot) ≡ a
+  certification_back : (a : Certification) → NumberedCertification a → certification_from (of_certification a p slot)
+      ≡ a
   certification_back (Certification.Granted c) n = rw (certificate_in_slot c)
   certification_back (Certification.Refused r) n = rw (ne_eqb _ _ n)
 

@@ -10,7 +10,8 @@ use Rattle.stepper.specs.Answer.{Answer, RunAnswer}
 use Rattle.stepper.specs.Step.{step_of}
 use Rattle.stepper.specs.Run.{run_of}
 use Rattle.monitor.specs.RegisterBytes.{register_size, unpacked}
-use Rattle.monitor.specs.StepperCalls.{StepperCall, stepper_call, of_step, of_run, if_sized, step_bytes_of, run_bytes_of}
+use Rattle.monitor.specs.StepperCalls.{StepperCall, stepper_call, of_step, of_run, if_sized, step_bytes_of}
+use Rattle.monitor.specs.StepperCalls.{run_bytes_of}
 
 module _ (c : ℕ) (rs m : List ℕ) (a : StepperCall) where
   pub bad_registers : (length rs ≡ register_size → ⊥) → stepper_call 21 c 0 rs m ≡ if_sized c rs m a

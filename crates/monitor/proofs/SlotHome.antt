@@ -27,7 +27,8 @@ use Rattle.monitor.proofs.BytesHome.{packed_come_home}
 
 module _ (ticket image : List ℕ) (bytes : AllBytes ticket) where
   -- the slot's header is the certified one, and a start by it comes home
-  slot_comes_home : (c : Certificate) → certification_of ticket image ≡ Granted c → SlotComesHome ticket image (slot_of c)
+  slot_comes_home : (c : Certificate) → certification_of ticket image ≡ Granted c
+      → SlotComesHome ticket image (slot_of c)
   unfolding start_slot_of
   slot_comes_home c e h p rs m sized whole =
       let S = certificate_comes_home ticket image bytes c e (data_of (unpacked rs)) m whole in

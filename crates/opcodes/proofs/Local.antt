@@ -15,7 +15,8 @@ use Rattle.opcodes.proofs.Prefix.{size_some, in_first, paged}
 
 -- an operand has no byte past its mode's size
 module _ (u v w x y z : ℕ) where
-  operand_local : (m : Mode) → (0 < operand_size m → u ≡ x) → (1 < operand_size m → v ≡ y) → (2 < operand_size m → w ≡ z)
+  operand_local : (m : Mode) → (0 < operand_size m → u ≡ x) → (1 < operand_size m → v ≡ y)
+      → (2 < operand_size m → w ≡ z)
       → operand_of m x y z ≡ operand_of m u v w
   unfolding operand_of
   operand_local Mode.Inherent a b c = refl

@@ -83,7 +83,8 @@ module _ (first second : ℕ) where
       (in_other far ∙ ap (λ (k : ℕ). k + second) (sym e), size_2 (g + second) (omega (arith, a_page first far)))
 
   module _ (t : List ℕ) (e : t ≡ costs) (p : ℕ) (h : opcode_place first second ≡ p) where
-    pub there : (s : ℕ) → opcode_size p ≡ s → (get_or t p 0 ≡ 0 → ⊥) → Found.At p s (get_or t p 0) ≡ found_of first second
+    pub there : (s : ℕ) → opcode_size p ≡ s → (get_or t p 0 ≡ 0 → ⊥) → Found.At p s (get_or t p 0)
+        ≡ found_of first second
     unfolding found_of
     there s g n = simp (h, ← entry t e p, g, ne_eqb _ _ n)
 

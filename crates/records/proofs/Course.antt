@@ -59,7 +59,8 @@ module _ {w : Window} {file cs : List ℕ} {p : FileProgress} {at : ℕ} (r : Re
         let all = rw length-drop at (line_within left) in
         (omega (arith, of_left), omega (arith, of_left))
 
-    by_line : onward p (line_of w p cs (take n (rest file at))) (λ q ds. file_from w q ds (lines_of (drop (at + n) file)))
+    by_line :
+        onward p (line_of w p cs (take n (rest file at))) (λ q ds. file_from w q ds (lines_of (drop (at + n) file)))
         ≡ file_of w file
     unfolding file_from
     by_line = rw (rest_is file at, of_left) (rw (first_line left some_left, drop-drop) at r.course)

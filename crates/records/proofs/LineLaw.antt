@@ -61,7 +61,8 @@ module _ (w : Window) (p : FileProgress) (cs l : List ℕ) (q : FileProgress) (d
         after_is = i.1;
       }
 
-  by_bytes : (o : Option (List ℕ)) → bytes_of (drop 2 l) ≡ o → line_by w p cs (get_or l 0 0) (get_or l 1 0) o ≡ next q ds
+  by_bytes : (o : Option (List ℕ)) → bytes_of (drop 2 l) ≡ o → line_by w p cs (get_or l 0 0) (get_or l 1 0) o
+      ≡ next q ds
       → Left w p cs l q ds
   by_bytes none r e = absurd (cause_next _ _ _ e)
   by_bytes (some bs) r e = by_tests bs r _ _ refl refl e

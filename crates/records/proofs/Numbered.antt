@@ -53,7 +53,8 @@ from_numbered : (w : Window) (ls : List (List ℕ)) (p : FileProgress) (cs : Lis
 unfolding file_from line_of
 from_numbered w [] p cs = closed_numbered p.ended (all_given (take w.length cs)) (take w.length cs) _
 from_numbered w (l ∷ ls) p cs =
-    by_line (from_numbered w ls) (line_of w p cs l) (line_numbered w p cs (get_or l 0 0) (get_or l 1 0) (bytes_of (drop 2 l)))
+    by_line (from_numbered w ls) (line_of w p cs l)
+    (line_numbered w p cs (get_or l 0 0) (get_or l 1 0) (bytes_of (drop 2 l)))
   where
     by_line : ((q : FileProgress) (ds : List ℕ) → OfFile (file_from w q ds ls)) → (o : LineOutcome) → OfLine o
         → OfFile (onward p o (λ q ds. file_from w q ds ls))

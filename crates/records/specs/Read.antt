@@ -1,7 +1,8 @@
 -- Reading an S-record file, line by line: the image that it names, or the first cause with its place (document 02, a:
 -- 25 malformed line, 26 wrong checksum, 27 byte outside the code window, given twice, or never given).
 -- Assumes nothing.
-use Rattle.std.specs.Prelude.{ℕ, ◌+◌, ◌-◌, ◌*◌, ◌%◌, Bool, true, false, cond, not, ◌&&◌, List, [], ◌∷◌, ◌++◌, eqb, leb, ltb, length, get_or, set, take, drop, replicate}
+use Rattle.std.specs.Prelude.{ℕ, ◌+◌, ◌-◌, ◌*◌, ◌%◌, Bool, true, false, cond, not, ◌&&◌, List, [], ◌∷◌, ◌++◌, eqb, leb}
+use Rattle.std.specs.Prelude.{ltb, length, get_or, set, take, drop, replicate}
 use Rattle.std.proofs.Math.Option.{Option, none, some}
 use Rattle.lists.specs.Digit.{digit_of}
 use Rattle.lists.specs.Bit.{one}

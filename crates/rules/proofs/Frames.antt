@@ -60,7 +60,8 @@ module _ (f : Fields) (need : ℕ) (m : List ℕ) where
       (pairs_away u.base us h.1 a (λ x low high. away x (omega arith) high))
 
   -- a memory with the same bytes over the base
-  pub stacked_keep : (n : List ℕ) (b : ℕ) (us : List Frame) → ((x : ℕ) → b < x → x ≤ top_of f → byte_at n x ≡ byte_at m x)
+  pub stacked_keep : (n : List ℕ) (b : ℕ) (us : List Frame)
+      → ((x : ℕ) → b < x → x ≤ top_of f → byte_at n x ≡ byte_at m x)
       → Stacked f need m b us → Stacked f need n b us
   stacked_keep n b [] same h =
       let top : b + 2 ≡ top_of f = h.0 in

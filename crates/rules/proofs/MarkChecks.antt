@@ -19,7 +19,8 @@ use Rattle.ticket.proofs.Says.{leb_says, ltb_says, eqb_says}
 use Rattle.rules.specs.Shape.{Ordinary, Call, Shape, ordinary, call, return, forbidden, nothing}
 use Rattle.rules.specs.Marks.{claim_at}
 use Rattle.rules.specs.Rules.{Follows, CallRules, RulesBy, RulesAt}
-use Rattle.rules.specs.Checks.{all, is_marked, next_marked, depths_agree, costs_cover, needs_cover, checks_by, checks_at}
+use Rattle.rules.specs.Checks.{all, is_marked, next_marked, depths_agree, costs_cover, needs_cover, checks_by}
+use Rattle.rules.specs.Checks.{checks_at}
 use Rattle.rules.specs.Checks.{checks_of_marks}
 use Rattle.rules.proofs.Passes.{Passes, append_says}
 

@@ -50,9 +50,11 @@ pushed_holds m s b v e h l =
     let under : wrapping_sub s 1 ≡ b + 1 = omega (arith, less_is s 1 l (omega arith)) in
     let low : List ℕ = set m (b + 2) (v % 256) in
     let room : b + 1 < length low = omega (arith, length-set m (b + 2) (v % 256)) in
-    let high_is : get_or (set low (b + 1) (v / 256)) (b + 1) 0 ≡ v / 256 = get_or-set_same low (b + 1) (v / 256) 0 room in
+    let high_is : get_or (set low (b + 1) (v / 256)) (b + 1) 0
+    ≡ v / 256 = get_or-set_same low (b + 1) (v / 256) 0 room in
     let low_is : get_or (set low (b + 1) (v / 256)) (b + 2) 0 ≡ v % 256 =
-    get_or-set_other low (b + 1) (b + 2) (v / 256) 0 (omega arith) ∙ get_or-set_same m (b + 2) (v % 256) 0 (omega arith) in
+    get_or-set_other low (b + 1) (b + 2) (v / 256) 0 (omega arith)
+    ∙ get_or-set_same m (b + 2) (v % 256) 0 (omega arith) in
     rw (under, e, high_is, low_is) (div-add-mod' v 256)
 
 -- RTS reads it back

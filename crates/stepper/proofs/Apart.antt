@@ -1,5 +1,5 @@
--- Two different answers have different readings: from what `answer_of`, `ran_of` and `advanced_of` say the answer is found
--- again.
+-- Two different answers have different readings: from what `answer_of`, `ran_of` and `advanced_of` say the answer is
+-- found again.
 -- Assumes nothing.
 use mathlib.Core.Path.{◌≡◌, refl, sym, ap, ◌∙◌}
 use Rattle.stepper.specs.declared.answer.Stepped.{Stepped}

@@ -34,7 +34,8 @@ begun once home b r m =
 module _ {once : Bool} {home b : ℕ} {r₀ : Registers} {m₀ : List ℕ} {left : ℕ} {r : Registers} {m : List ℕ}
     (i : CameTo once home b r₀ m₀ left r m) where
   pub stopped : {number place : ℕ} {m' : List ℕ} → step_of r m ≡ record { answer = refused number place; memory = m' }
-      → until_of once home r₀ m₀ b ≡ record { answer = run_refused number place r (record { 0 = b - left }); memory = m' }
+      → until_of once home r₀ m₀ b
+      ≡ record { answer = run_refused number place r (record { 0 = b - left }); memory = m' }
   stopped e = i.same ∙ refuses once home i.turns b (b - left) r m e
 
   -- a step to the registers q and the memory m' in k cycles

@@ -49,7 +49,8 @@ from env zero b s r m = ([], stay, omega arith)
 from env (suc n) b s r m =
     by_home env b (λ t q m'. run_from env n b t q m') (from env n b) s r m (eqb r.pc env.home) refl
 
-by_length : (env : Environment) (c : Bool) (r : Registers) (m : List ℕ) (b : ℕ) → SumsFrom env r m 0 (run_if c env r m b)
+by_length : (env : Environment) (c : Bool) (r : Registers) (m : List ℕ) (b : ℕ)
+    → SumsFrom env r m 0 (run_if c env r m b)
 by_length env true r m b = from env (suc b) b 0 r m
 by_length env false r m b = ([], stay, omega arith)
 

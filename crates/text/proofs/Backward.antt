@@ -37,7 +37,8 @@ pub record Ending (old : List ℕ) (at n : ℕ) (now : List ℕ) (i left : ℕ) 
   pub digits : last_before ahead left put ≡ decimal_of n
   pub bytes : now ≡ spliced old i put
 
-pub ending_none : (old : List ℕ) (at n i : ℕ) → i ≡ at + length (decimal_of n) → i ≤ length old → Ending old at n old i n
+pub ending_none : (old : List ℕ) (at n i : ℕ) → i ≡ at + length (decimal_of n) → i ≤ length old
+    → Ending old at n old i n
 ending_none old at n i e h =
     record {
       ahead = length (decimal_of n);

@@ -14,7 +14,8 @@ module _ (a b c d e : ℕ) where
   -- the columns of p, q, r, s and t, a space between
   abbrev pub columns : (p q r s t : List ℕ) → List ℕ
   columns p q r s t =
-      get_or p 0 0 ∷ get_or p 1 0 ∷ 32 ∷ get_or q 0 0 ∷ get_or q 1 0 ∷ 32 ∷ get_or r 0 0 ∷ get_or r 1 0 ∷ 32 ∷ get_or s 0 0 ∷
+      get_or p 0 0 ∷ get_or p 1 0 ∷ 32 ∷ get_or q 0 0 ∷ get_or q 1 0 ∷ 32 ∷ get_or r 0 0 ∷ get_or r 1 0 ∷ 32
+      ∷ get_or s 0 0 ∷
       get_or s 1 0 ∷ 32 ∷ get_or t 0 0 ∷ get_or t 1 0 ∷ []
 
   pub shown : (n : ℕ) → columns (column_of (ltb 0 n) a) (column_of (ltb 1 n) b) (column_of (ltb 2 n) c)

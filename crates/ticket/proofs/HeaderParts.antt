@@ -41,7 +41,8 @@ module _ (h : Header) (n : ℕ) (l : n < header_length) where
   pub fit_more : AllFit (commands_before h n) → Fits (command_at h n) → AllFit (commands_before h (n + 1))
   fit_more fits fit = rw header_more (fit_append fits (more fit none))
 
-  pub bytes_more : encode_all (commands_before h (n + 1)) ≡ encode_all (commands_before h n) ++ encode_of (command_at h n)
+  pub bytes_more : encode_all (commands_before h (n + 1)) ≡ encode_all (commands_before h n)
+      ++ encode_of (command_at h n)
   bytes_more =
       ap encode_all header_more ∙ (encode_append (commands_before h n) (command_at h n ∷ []) ∙ rw append-nil)
 

@@ -21,7 +21,8 @@ use Rattle.commands.specs.Admit.{admit_of}
 use Rattle.commands.proofs.Coding.{after_at, parse_room, width_positive}
 use Rattle.ticket.specs.declared.fields.Mark.{Mark}
 use Rattle.ticket.specs.Fields.{marks_with}
-use Rattle.ticket.specs.Read.{refusal, admitted_as, parsed_as, next_command_of, end_of, read_onward, if_ended, read_from}
+use Rattle.ticket.specs.Read.{refusal, admitted_as, parsed_as, next_command_of, end_of, read_onward, if_ended}
+use Rattle.ticket.specs.Read.{read_from}
 use Rattle.ticket.specs.OldTicket.{moved_place, moved}
 
 -- the same progress n bytes later, at another stage, and perhaps another latest command

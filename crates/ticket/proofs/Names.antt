@@ -41,7 +41,8 @@ use Rattle.ticket.proofs.WrittenRead.{few}
 
 -- ---- the commands of their bytes are found again
 
-commands_from_encoded : (n : ℕ) {cs : List Command} → AllFit cs → length (encode_all cs) ≤ n → commands_from n (encode_all cs)
+commands_from_encoded : (n : ℕ) {cs : List Command} → AllFit cs → length (encode_all cs) ≤ n
+    → commands_from n (encode_all cs)
     ≡ cs
 unfolding parse_of
 commands_from_encoded zero none l = refl

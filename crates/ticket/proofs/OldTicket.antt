@@ -138,7 +138,8 @@ module _ (h : Header) (rest : List ℕ) (fits : AllFit (required_commands h)) wh
         let old = read_begun ∙ ap (onward (19 + length rest) rest) (free_admitted _ (required_commands h) free) in
         read_with_home
         ∙ ap (onward (21 + length rest) rest) (free_admitted _ (header_commands homed) free_with_home)
-        ∙ read_later required_size 3 (19 + length rest) (21 + length rest) (headed_without_home h) header_length false []
+        ∙ read_later required_size 3 (19 + length rest) (21 + length rest) (headed_without_home h) header_length false
+        []
         rest (omega arith) (omega arith) (omega arith) refl (alike rest first_byte)
         ∙ sym (ap (moved required_size 3) old)
 

@@ -100,7 +100,8 @@ module _ (s : List ℕ) (array : List Mark) (p : Progress) (h : ReadState s arra
           }
 
     module _ (q : Progress) (c : Command) (e : next_command_of (drop p.at s) p ≡ NextCommand.Next q c) where
-      pub reached_next : (d : Mark) → ReadState s (set array (q.count - 1) (entered_of (get_or array (q.count - 1) d) c))
+      pub reached_next : (d : Mark)
+          → ReadState s (set array (q.count - 1) (entered_of (get_or array (q.count - 1) d) c))
           q
       reached_next d =
           let t = turned (drop p.at s) p q c e in

@@ -189,7 +189,8 @@ module _ (p : Progress) where
   marked_name (named u v K) e l a t same n = absurd (false≢true e)
 
   said_step : {ms : List Mark} {ds : List Command} → SoFar p ms ds → Consistent p ms → (c : Command)
-      → command_cause_of p c ≡ 0 → Fits c → in_order p c ≡ true → SoFar (after_of p c) (marks_with ms c) (ds ++ (c ∷ []))
+      → command_cause_of p c ≡ 0 → Fits c → in_order p c ≡ true
+      → SoFar (after_of p c) (marks_with ms c) (ds ++ (c ∷ []))
   unfolding after_of
   said_step {ms} S k (Command.Header c) free fit o =
       rw (← S.all) (headed_header ms k S.headed S.marked c o)

@@ -35,5 +35,6 @@ module _ (n : ℕ) (p : Progress) (ms : List Mark) (c : Command) (s : List ℕ) 
       read_from (suc n) p ms (encode_of c ++ s) ≡ k (admit_of p c)
   step e fits k stops goes =
       rw (turn e fits) (by_admission p c (λ a. read_onward (admitted_as a c) ms (encode_of c ++ s)
-      (λ q ks t. read_from n q ks t) ≡ k a) (λ r e. stops r) (rw (drop_at (encode_of c) s (width_of c) (length_encode c))
+      (λ q ks t. read_from n q ks t) ≡ k a) (λ r e. stops r)
+      (rw (drop_at (encode_of c) s (width_of c) (length_encode c))
       goes))

@@ -134,7 +134,8 @@ module _ (q : Progress) (n : ℕ) (b : Bool) (cs : List Command)
   name_left : (a t : ℕ) → Past q b → Free (named q n b) (Command.Name a t ∷ cs) → Left q n b (Command.Name a t ∷ cs)
   unfolding after_of width_of
   name_left a t past f =
-      let o = (in_order_parts (named q n b) (Command.Name a t) (allowed (named q n b) (Command.Name a t) f.0).ordered).1 in
+      let o =
+      (in_order_parts (named q n b) (Command.Name a t) (allowed (named q n b) (Command.Name a t) f.0).ordered).1 in
       let late : q.stage ≡ header_length = past ((and-eq-true_iff b _).0 o).0 in
       let at : q.at + n + 11 ≡ q.at + (n + 11) = omega arith in
       let same : after_of (named q n b) (Command.Name a t) ≡ named q (n + 11) false = rw (at, late) in

@@ -29,8 +29,10 @@ module _
     unfolding after_in
     remembers h = rw (before, loaded) (ap (λ (w : After). w.memory) h)
 
-    pub agreeing : (step_of r m).answer ≡ done q (record { 0 = k }) → (step_of r m).memory ≡ expected_in s → StepAgrees s
+    pub agreeing : (step_of r m).answer ≡ done q (record { 0 = k }) → (step_of r m).memory ≡ expected_in s
+        → StepAgrees s
     unfolding after_in
     agreeing a b =
-        let w : made (step_of r m).answer (step_of r m).memory ≡ made (done q (record { 0 = k })) (expected_in s) = cc in
+        let w : made (step_of r m).answer (step_of r m).memory
+        ≡ made (done q (record { 0 = k })) (expected_in s) = cc in
         rw (← before, ← loaded, ← after, ← cycles) w

@@ -1,6 +1,7 @@
 -- Steps through a text: a byte that the buffer takes or has no room for, and a byte before those that are left.
 -- Assumes nothing.
-use Rattle.std.proofs.Common.{◌≡◌, ℕ, ◌+◌, ◌<◌, List, [], ◌∷◌, ◌++◌, length, get_or, take, drop, set, add-one, arith, length-take-le, drop-cons, take-suc-set}
+use Rattle.std.proofs.Common.{◌≡◌, ℕ, ◌+◌, ◌<◌, List, [], ◌∷◌, ◌++◌, length, get_or, take, drop, set, add-one, arith}
+use Rattle.std.proofs.Common.{length-take-le, drop-cons, take-suc-set}
 use Rattle.vectors.specs.declared.count.Counts.{Counts}
 use Rattle.vectors.specs.Text.{LineReading, reading, Next, longer, full, ReadsLines, then}
 

@@ -6,7 +6,8 @@ use Rattle.registers.specs.declared.Registers.{Registers}
 
 -- the value of a digit `0` to `9` or `A` to `F`, and 16 for any other byte
 unfoldable pub digit_of : ℕ → ℕ
-digit_of c = cond (nat_lt c 48) 16 (cond (nat_lt c 58) (c - 48) (cond (nat_lt c 65) 16 (cond (nat_lt c 71) (c - 55) 16)))
+digit_of c =
+    cond (nat_lt c 48) 16 (cond (nat_lt c 58) (c - 48) (cond (nat_lt c 65) 16 (cond (nat_lt c 71) (c - 55) 16)))
 
 -- the value of the digit at a place; 0 where there is none
 abbrev pub value_in : List ℕ → ℕ → ℕ

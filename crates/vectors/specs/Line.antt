@@ -1,7 +1,8 @@
 -- The shape of a line, `K C BEFORE AFTER N MEMORY W WRITES`: which places hold a space, which a digit, and how long it
 -- is (docs/SIMULATORS.md, "The file").
 -- Assumes nothing.
-use Rattle.std.specs.Prelude.{◌≡◌, ℕ, ◌+◌, ◌-◌, ◌*◌, ◌%◌, ◌<◌, ◌≤◌, Bool, true, cond, ◌||◌, List, length, ◌==◌, nat_lt, slice_index}
+use Rattle.std.specs.Prelude.{◌≡◌, ℕ, ◌+◌, ◌-◌, ◌*◌, ◌%◌, ◌<◌, ◌≤◌, Bool, true, cond, ◌||◌, List, length, ◌==◌, nat_lt}
+use Rattle.std.specs.Prelude.{slice_index}
 use Rattle.vectors.specs.Hex.{digit_of, hex_byte_in}
 
 -- K, C, N and W; the bytes listed start at 63, and W stands after them

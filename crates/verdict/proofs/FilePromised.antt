@@ -62,17 +62,20 @@ module _ (ticket file buffer : List ℕ) where
     where
       by_room : (f : Fields) (image : List ℕ) → read_of ticket ≡ read f → file_of f.header.code file ≡ named image
           → (b : Bool) → eqb (length buffer) f.header.code.length ≡ b
-          → (records_verdict_of ticket file buffer).answer ≡ Accept e c k → (f : Fields) × (image : List ℕ) × Good f image
+          → (records_verdict_of ticket file buffer).answer ≡ Accept e c k → (f : Fields) × (image : List ℕ)
+          × Good f image
       by_room f image t n true r h = (f, image, record { ticket_read = t; file_read = n; room = eqb-true _ _ r })
       by_room f image t n false r h = absurd (refuse_accept (refusal 9 0) e c k (rw (t, n, r) at h))
 
       by_file : (f : Fields) → read_of ticket ≡ read f → (o : FileOutcome) → file_of f.header.code file ≡ o
-          → (records_verdict_of ticket file buffer).answer ≡ Accept e c k → (f : Fields) × (image : List ℕ) × Good f image
+          → (records_verdict_of ticket file buffer).answer ≡ Accept e c k → (f : Fields) × (image : List ℕ)
+          × Good f image
       by_file f t (file_refused r) n h = absurd (refuse_accept r e c k (rw (t, n) at h))
       by_file f t (named image) n h = by_room f image t n (eqb (length buffer) f.header.code.length) refl h
 
       by_read : (o : ReadOutcome) → read_of ticket ≡ o
-          → (records_verdict_of ticket file buffer).answer ≡ Accept e c k → (f : Fields) × (image : List ℕ) × Good f image
+          → (records_verdict_of ticket file buffer).answer ≡ Accept e c k → (f : Fields) × (image : List ℕ)
+          × Good f image
       by_read (refused r) t h = absurd (refuse_accept r e c k (rw t at h))
       by_read (read f) t h = by_file f t (file_of f.header.code file) refl h
 

@@ -126,7 +126,8 @@ module _ (ticket image : List ℕ) (d : Data) (m : List ℕ) where
 
   -- by whether the memory has 65,536 bytes
   home_sized : (bytes : AllBytes ticket) (b : Bool) → eqb (length m) 65536 ≡ b
-      → Home (cond b (start_routine_by (certification_of ticket image) d image m) (after_start (Refused (refusal 21 0)) m))
+      → Home
+      (cond b (start_routine_by (certification_of ticket image) d image m) (after_start (Refused (refusal 21 0)) m))
   home_sized bytes true e r home s =
       home_by bytes (eqb-true _ _ e) (certification_of ticket image) (homeward ticket image bytes) r home s
   home_sized bytes false e r home s = absurd (not_started (refusal 21 0) r home s)

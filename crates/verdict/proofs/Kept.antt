@@ -19,7 +19,8 @@ use Rattle.rules.proofs.Memory.{byte_applied}
 use Rattle.verdict.specs.Start.{image_stores, loaded_of}
 use Rattle.verdict.proofs.Stores.{Among, image_among, home_of, last_is, under_is, code_is}
 
-either : (b c : Bool) (m n : List ℕ) (a : ℕ) → byte_at n a ≡ byte_at m a → byte_at (cond b (cond c n m) m) a ≡ byte_at m a
+either : (b c : Bool) (m n : List ℕ) (a : ℕ) → byte_at n a ≡ byte_at m a → byte_at (cond b (cond c n m) m) a
+    ≡ byte_at m a
 either false c m n a e = refl
 either true false m n a e = refl
 either true true m n a e = e
@@ -39,7 +40,8 @@ module _ (f : Fields) (image m : List ℕ) (A : Accepted f image) (a : ℕ) wher
       byte_applied m a (every_map (away off) (image_among f.header.code.start image
       (omega (arith, H.code_edge, H.code_length.0))))
 
-  off_home : (n : List ℕ) → (a ≡ top_of f → ⊥) → (a ≡ top_of f - 1 → ⊥) → byte_at (applied (home_of f) n) a ≡ byte_at n a
+  off_home : (n : List ℕ) → (a ≡ top_of f → ⊥) → (a ≡ top_of f - 1 → ⊥) → byte_at (applied (home_of f) n) a
+      ≡ byte_at n a
   off_home n not_low not_high = byte_applied n a (more (λ e. not_low (sym e)) (more (λ e. not_high (sym e)) none))
 
   kept_at : (In f.header.code a → ⊥) → (a ≡ top_of f → ⊥) → (a ≡ top_of f - 1 → ⊥) →

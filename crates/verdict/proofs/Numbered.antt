@@ -28,7 +28,8 @@ use Rattle.ticket.specs.Read.{read_of}
 use Rattle.answers.specs.declared.Verdict.{Verdict}
 use Rattle.answers.specs.declared.Verdict.TheVariants.{Accept, Refuse}
 use Rattle.rules.specs.Marks.{claim_at}
-use Rattle.rules.specs.Checks.{Check, first_failing, checks_at, checks_of_marks, whole_checks, checks_of, accept_of, verdict_on}
+use Rattle.rules.specs.Checks.{Check, first_failing, checks_at, checks_of_marks, whole_checks, checks_of, accept_of}
+use Rattle.rules.specs.Checks.{verdict_on}
 use Rattle.rules.specs.Checks.{verdict_by, verdict_of}
 use Rattle.verdict.specs.Promise.{VerdictNumber, RefusalsNumbered}
 
@@ -98,7 +99,8 @@ one_of_all : (v : Verdict) → OneToTwenty v → Numbered v
 one_of_all (Accept entry cost stack) t = tt
 one_of_all (Refuse r) t = inl t
 
-end_numbered : (image : List ℕ) (p : Progress) (ms : List Mark) (s : List ℕ) → Numbered (verdict_by (end_of p ms s) image)
+end_numbered : (image : List ℕ) (p : Progress) (ms : List Mark) (s : List ℕ)
+    → Numbered (verdict_by (end_of p ms s) image)
 end_numbered image p ms [] = let f : Fields = record { header = p.header; marks = in_file_order ms } in
     one_of_all (verdict_on f image) (verdict_on_numbered f image)
 end_numbered image p ms (b ∷ s) = inl (search arith)

@@ -1,6 +1,7 @@
 -- The table of commands as the code has it: rows of four operands, those that a command lacks without bytes.
 -- Assumes nothing.
-use Rattle.std.specs.Prelude.{ℕ, zero, suc, ◌+◌, ◌^◌, ◌<◌, Bool, true, false, cond, ◌&&◌, List, [], ◌∷◌, get_or, take, drop}
+use Rattle.std.specs.Prelude.{ℕ, zero, suc, ◌+◌, ◌^◌, ◌<◌, Bool, true, false, cond, ◌&&◌, List, [], ◌∷◌, get_or, take}
+use Rattle.std.specs.Prelude.{drop}
 use Rattle.commands.specs.Number.{number, digits}
 use Rattle.commands.specs.Rows.{CommandOperand, any, within, text, between, printable, CommandRow}
 use Rattle.commands.specs.declared.row.TableOperand.{TableOperand as CodeOperand}

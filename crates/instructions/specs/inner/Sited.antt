@@ -22,7 +22,8 @@ use Rattle.instructions.specs.Effect.{Effect, effect_of}
 
 -- the operand of a mode, whose bytes start at an address
 abbrev pub operand_from : Mode → ℕ → List ℕ → Operand
-operand_from k from m = operand_of k (byte_at m from) (byte_at m (wrapping_add from 1)) (byte_at m (wrapping_add from 2))
+operand_from k from m =
+    operand_of k (byte_at m from) (byte_at m (wrapping_add from 1)) (byte_at m (wrapping_add from 2))
 
 -- where it stands: an immediate operand at its own bytes
 unfoldable pub address_at : Mode → ℕ → Registers → List ℕ → ℕ

@@ -28,7 +28,8 @@ unfolding load_of
 returns-then-image-n c = simp (sym c.in-Done.ensures, ne_eqb _ _ c.if-image-n.true, c.refuse.ensures)
 
 pub slice_bounds-copy-end : goal.slice_bounds-copy-end
-slice_bounds-copy-end c = sym (length-take-le _ _ (omega (arith, c.read_lines.auto.cells, length-replicate {A = ℕ} 4096 256)))
+slice_bounds-copy-end c =
+    sym (length-take-le _ _ (omega (arith, c.read_lines.auto.cells, length-replicate {A = ℕ} 4096 256)))
 
 pub copy-requires : goal.copy-requires
 copy-requires c =

@@ -10,10 +10,12 @@ pub loop-low-init : goal.loop-low-init
 loop-low-init c = between_all _ _
 
 pub loop-low-preserved-then-addresses-mid : goal.loop-low-preserved-then-addresses-mid
-loop-low-preserved-then-addresses-mid c = goes_up _ _ c.requires _ c.loop-low.invariant (search rules) c.if-addresses-mid.true
+loop-low-preserved-then-addresses-mid c =
+    goes_up _ _ c.requires _ c.loop-low.invariant (search rules) c.if-addresses-mid.true
 
 pub loop-low-preserved : goal.loop-low-preserved
-loop-low-preserved c = goes_down _ _ c.requires _ c.loop-low.invariant (search rules) (search rules) c.if-addresses-mid.false
+loop-low-preserved c =
+    goes_down _ _ c.requires _ c.loop-low.invariant (search rules) (search rules) c.if-addresses-mid.false
 
 pub returns-then-addresses-low : goal.returns-then-addresses-low
 returns-then-addresses-low c = ends_here _ _ c.loop-low.invariant c.if-low-addresses.true c.if-addresses-low.true

@@ -1,6 +1,7 @@
 -- `verdict_on` meets its contract: each turn's cause decides between a refusal and the next turn.
 -- Assumes nothing.
-use Rattle.std.proofs.Common.{rules, arith, ◌≡◌, sym, ◌∙◌, ℕ, suc, ◌-◌, ◌≤◌, ◌<◌, add-one, List, length, get_or, take, leb, ltb, cond, ◌+◌}
+use Rattle.std.proofs.Common.{rules, arith, ◌≡◌, sym, ◌∙◌, ℕ, suc, ◌-◌, ◌≤◌, ◌<◌, add-one, List, length, get_or, take}
+use Rattle.std.proofs.Common.{leb, ltb, cond, ◌+◌}
 use borrow.Author.Tests.{eq-eqb, ne_eqb}
 use native.Mathlib.Nat.{sub-zero}
 use Rattle.commands.specs.Header.{past_of}

@@ -1,4 +1,5 @@
--- `field_end` answers an index between where the field begins and the length of the line. The measure is how much of the line is left.
+-- `field_end` answers an index between where the field begins and the length of the line. The measure is how much of
+-- the line is left.
 -- Assumes nothing.
 use Rattle.std.proofs.Common.{◌-◌, ◌≤◌, length}
 use Rattle.images.proofs.fields.field_end.Given as goal

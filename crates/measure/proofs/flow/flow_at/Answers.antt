@@ -17,27 +17,32 @@ found m pc low b a b' f = simp (plus_zero pc low, ← a, ← b, ← b', ← f)
 
 pub overflow_add-n : goal.overflow_add-n
 overflow_add-n c =
-    let h = found c.args.mem.now c.args.pc (omega arith) c.byte_at.ensures c.wrapping_add.ensures c.byte_at-2.ensures c.in-At.ensures in
+    let h = found c.args.mem.now c.args.pc (omega arith) c.byte_at.ensures c.wrapping_add.ensures c.byte_at-2.ensures
+    c.in-At.ensures in
     omega (arith, size_small _ _ h)
 
 pub overflow_add-n-in-At : goal.overflow_add-n-in-At
 overflow_add-n-in-At c =
-    let h = found c.args.mem.now c.args.pc (omega arith) c.byte_at.ensures c.wrapping_add.ensures c.byte_at-2.ensures c.in-At.ensures in
+    let h = found c.args.mem.now c.args.pc (omega arith) c.byte_at.ensures c.wrapping_add.ensures c.byte_at-2.ensures
+    c.in-At.ensures in
     omega (arith, size_small _ _ h)
 
 pub flow_found-requires : goal.flow_found-requires
 flow_found-requires c =
-    let h = found c.args.mem.now c.args.pc (omega arith) c.byte_at.ensures c.wrapping_add.ensures c.byte_at-2.ensures c.in-At.ensures in
+    let h = found c.args.mem.now c.args.pc (omega arith) c.byte_at.ensures c.wrapping_add.ensures c.byte_at-2.ensures
+    c.in-At.ensures in
     record { place_bound = in_tables _ _ h; e_value = entry _ _ h }
 
 pub returns-in-Nothing : goal.returns-in-Nothing
 returns-in-Nothing c =
-    let h = found c.args.mem.now c.args.pc (omega arith) c.byte_at.ensures c.wrapping_add.ensures c.byte_at-2.ensures c.in-Nothing.ensures in
+    let h = found c.args.mem.now c.args.pc (omega arith) c.byte_at.ensures c.wrapping_add.ensures c.byte_at-2.ensures
+    c.in-Nothing.ensures in
     sym (nowhere_flow _ _ h)
 
 pub returns-in-At : goal.returns-in-At
 returns-in-At c =
-    let h = found c.args.mem.now c.args.pc (omega arith) c.byte_at.ensures c.wrapping_add.ensures c.byte_at-2.ensures c.in-At.ensures in
+    let h = found c.args.mem.now c.args.pc (omega arith) c.byte_at.ensures c.wrapping_add.ensures c.byte_at-2.ensures
+    c.in-At.ensures in
     simp (
       there_flow _ _ h,
       ← c.wrapping_add-in-At.ensures,

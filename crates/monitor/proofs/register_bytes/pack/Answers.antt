@@ -11,7 +11,8 @@ use Rattle.monitor.specs.inner.Put.{put_word}
 use Rattle.monitor.proofs.register_bytes.pack.Goals as goal
 
 -- from bytes to bytes, word by word, and then the three bytes
-stored : (bs : List ℕ) → length bs ≡ register_size → (r : Registers) {with_x with_y with_sp with_pc with_lowest : List ℕ}
+stored : (bs : List ℕ) → length bs ≡ register_size
+    → (r : Registers) {with_x with_y with_sp with_pc with_lowest : List ℕ}
     → with_x ≡ put_word bs 2 r.x → with_y ≡ put_word with_x 4 r.y → with_sp ≡ put_word with_y 6 r.sp
     → with_pc ≡ put_word with_sp 8 r.pc → with_lowest ≡ put_word with_pc 11 r.lowest
     → set (set (set with_lowest 0 r.a) 1 r.b) 10 r.flags ≡ packed r

@@ -12,7 +12,8 @@ use Rattle.records.proofs.cells.enter.Given as goal
 abbrev pub invariant-loop-i : goal.invariant-loop-i
 invariant-loop-i l = (l.i ≤ length l.data) × (length l.cells ≡ 4096)
     × ((w : Window) → w.start ≡ l.start → w.start + w.length ≡ l.past
-    → enter w l.cells (given_from (l.address + l.i) (drop l.i l.data)) ≡ enter w l.initial.cells (given_from l.address l.data))
+    → enter w l.cells (given_from (l.address + l.i) (drop l.i l.data))
+    ≡ enter w l.initial.cells (given_from l.address l.data))
 
 abbrev pub decreases-loop-i : goal.decreases-loop-i
 decreases-loop-i l = length l.data - l.i

@@ -31,10 +31,12 @@ returns-then-high-low c =
     (no_digits c.loop-n.invariant q c.if-high-low.true, tt)
 
 pub overflow_mul-buffer : goal.overflow_mul-buffer
-overflow_mul-buffer c = omega (arith, small_digits {high = c.digit-high.result} {low = c.digit-low.result} c.if-high-low.false)
+overflow_mul-buffer c =
+    omega (arith, small_digits {high = c.digit-high.result} {low = c.digit-low.result} c.if-high-low.false)
 
 pub overflow_add-buffer : goal.overflow_add-buffer
-overflow_add-buffer c = omega (arith, small_digits {high = c.digit-high.result} {low = c.digit-low.result} c.if-high-low.false)
+overflow_add-buffer c =
+    omega (arith, small_digits {high = c.digit-high.result} {low = c.digit-low.result} c.if-high-low.false)
 
 pub loop-n-preserved : goal.loop-n-preserved
 loop-n-preserved c =

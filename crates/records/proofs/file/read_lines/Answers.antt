@@ -46,7 +46,8 @@ slice_bounds-all_given-end-2 c = sym (length-take-le _ _ (omega (arith, c.loop-a
 pub returns-then-not-all_given : goal.returns-then-not-all_given
 returns-then-not-all_given c =
     let given = sym c.all_given.ensures ∙ c.if-not-all_given.true in
-    ap refused c.refuse.ensures ∙ rw (not-false _ c.if-not-p.false, given) at (ends c.loop-at.invariant c.loop-at-test.false)
+    ap refused c.refuse.ensures
+    ∙ rw (not-false _ c.if-not-p.false, given) at (ends c.loop-at.invariant c.loop-at-test.false)
 
 pub returns : goal.returns
 returns c =

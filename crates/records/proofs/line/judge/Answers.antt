@@ -35,5 +35,7 @@ returns-in-Malformed c =
 
 pub returns-in-Bytes : goal.returns-in-Bytes
 returns-in-Bytes c =
-    let a = c.args in
-    (counted_line a.code a.p a.cells.now a.line.now _ c.in-Bytes.is c.decode.ensures.0 c.judged.ensures.0, c.judged.ensures.1)
+    let a = c.args in (
+      counted_line a.code a.p a.cells.now a.line.now _ c.in-Bytes.is c.decode.ensures.0 c.judged.ensures.0,
+      c.judged.ensures.1,
+    )

@@ -8,7 +8,8 @@ use Rattle.stepper.specs.Record.{after_step, advance_of}
 use Rattle.stepper.proofs.record.advance_value.Goals as goal
 
 -- where the stepper has answered
-stepped : (r : Registers) (m : List ℕ) {m' : List ℕ} {a : Answer} → (a ≡ (step_of r m).answer) × (m' ≡ (step_of r m).memory)
+stepped : (r : Registers) (m : List ℕ) {m' : List ℕ} {a : Answer} → (a ≡ (step_of r m).answer)
+    × (m' ≡ (step_of r m).memory)
     → after_step a r m' ≡ advance_of r m
 unfolding advance_of
 stepped r m e = λ i. after_step (e.0 i) r (e.1 i)

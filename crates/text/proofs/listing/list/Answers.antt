@@ -12,7 +12,8 @@ use Rattle.text.proofs.Listed.{nowhere, narrow, size, there}
 use Rattle.text.proofs.listing.list.Goals as goal
 
 pub overflow_cast-size : goal.overflow_cast-size
-overflow_cast-size c = let h = sym c.found_of.ensures ∙ c.in-At.is in omega (arith, narrow (five c.args.a c.args.b c.args.c c.args.d c.args.e) h)
+overflow_cast-size c = let h = sym c.found_of.ensures
+    ∙ c.in-At.is in omega (arith, narrow (five c.args.a c.args.b c.args.c c.args.d c.args.e) h)
 
 pub listed-requires : goal.listed-requires
 listed-requires c = let h = sym c.found_of.ensures ∙ c.in-At.is in in_tables _ _ h
@@ -37,7 +38,8 @@ returns-then-n-eq1 c = let h = sym c.found_of.ensures ∙ c.in-At.is in
 
 pub returns-else-n-eq1 : goal.returns-else-n-eq1
 returns-else-n-eq1 c = let h = sym c.found_of.ensures ∙ c.in-At.is in
-    let two = ⊎_elim (λ e. absurd (c.if-n-eq1.false e)) (λ e. e) (size (five c.args.a c.args.b c.args.c c.args.d c.args.e) h) in
+    let two = ⊎_elim (λ e. absurd (c.if-n-eq1.false e)) (λ e. e)
+    (size (five c.args.a c.args.b c.args.c c.args.d c.args.e) h) in
     simp (
       there (five c.args.a c.args.b c.args.c c.args.d c.args.e) h,
       c.listed-else-n-eq1.ensures,

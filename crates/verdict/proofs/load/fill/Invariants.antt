@@ -14,7 +14,8 @@ use Rattle.verdict.specs.Start.{image_stores}
 use Rattle.verdict.proofs.load.fill.Given as goal
 
 abbrev pub invariant-loop-i : goal.invariant-loop-i
-invariant-loop-i l = (l.i ≤ length l.image) × (applied (image_stores l.at (drop l.i l.image)) l.memory ≡ applied (image_stores l.from l.image) l.initial.memory)
+invariant-loop-i l = (l.i ≤ length l.image)
+    × (applied (image_stores l.at (drop l.i l.image)) l.memory ≡ applied (image_stores l.from l.image) l.initial.memory)
     × (length l.memory ≡ 65536)
 
 abbrev pub decreases-loop-i : goal.decreases-loop-i
