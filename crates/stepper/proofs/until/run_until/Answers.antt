@@ -41,7 +41,7 @@ pub returns-then-waits : goal.returns-then-waits
 returns-then-waits c =
     let i = rw (← c.with_lowest-held.ensures) at c.loop-place.invariant.1 in
     let here = at c.with_lowest-held.result c.loop-place.mem (c.loop-place.invariant.0 ∙ c.requires) (omega arith)
-        c.in-At.ensures in
+    c.in-At.ensures in
     told (stopped i (waiting here c.number_at-n.result c.number_at-n.ensures c.waits.ensures c.if-waits.true))
 
 pub overflow_sub-result-then-left-k : goal.overflow_sub-result-then-left-k
@@ -51,7 +51,7 @@ pub returns-then-left-k : goal.returns-then-left-k
 returns-then-left-k c =
     let i = rw (← c.with_lowest-held.ensures) at c.loop-place.invariant.1 in
     let here = at c.with_lowest-held.result c.loop-place.mem (c.loop-place.invariant.0 ∙ c.requires) (omega arith)
-        c.in-At.ensures in
+    c.in-At.ensures in
     let d = done_here here c.number_at-n.result c.number_at-n.ensures c.waits.ensures c.if-waits.false in
     told (uncovered i d c.if-left-k.true)
 
@@ -62,7 +62,7 @@ mode_number_at-requires c =
 pub overflow_cast-e : goal.overflow_cast-e
 overflow_cast-e c =
     let here = at c.with_lowest-held.result c.loop-place.mem (c.loop-place.invariant.0 ∙ c.requires) (omega arith)
-        c.in-At.ensures in
+    c.in-At.ensures in
     omega (arith, length_word here)
 
 pub execute-q-requires : goal.execute-q-requires
@@ -82,18 +82,18 @@ pub returns-then-once-q : goal.returns-then-once-q
 returns-then-once-q c =
     let i = rw (← c.with_lowest-held.ensures) at c.loop-place.invariant.1 in
     let here = at c.with_lowest-held.result c.loop-place.mem (c.loop-place.invariant.0 ∙ c.requires) (omega arith)
-        c.in-At.ensures in
+    c.in-At.ensures in
     let step = executes here c.number_at-n.result c.number_at-n.ensures c.waits.ensures c.if-waits.false
-        c.mode_number_at.result c.mode_number_at.ensures c.wrapping_add.ensures c.wrapping_add-in-At.ensures
-        c.with_pc.ensures c.execute-q.ensures (ap (λ (r : Registers). r.lowest) c.with_lowest-held.ensures)
-        c.smaller-lowest.ensures in
+    c.mode_number_at.result c.mode_number_at.ensures c.wrapping_add.ensures c.wrapping_add-in-At.ensures
+    c.with_pc.ensures c.execute-q.ensures (ap (λ (r : Registers). r.lowest) c.with_lowest-held.ensures)
+    c.smaller-lowest.ensures in
     rw c.with_lowest.ensures (told (finished i step c.if-left-k.false c.if-once-q.true))
 
 pub loop-place-smaller : goal.loop-place-smaller
 loop-place-smaller c =
     let i = rw (← c.with_lowest-held.ensures) at c.loop-place.invariant.1 in
     let here = at c.with_lowest-held.result c.loop-place.mem (c.loop-place.invariant.0 ∙ c.requires) (omega arith)
-        c.in-At.ensures in
+    c.in-At.ensures in
     let d = done_here here c.number_at-n.result c.number_at-n.ensures c.waits.ensures c.if-waits.false in
     omega (arith, cost i d)
 
@@ -101,9 +101,9 @@ pub loop-place-preserved : goal.loop-place-preserved
 loop-place-preserved c =
     let i = rw (← c.with_lowest-held.ensures) at c.loop-place.invariant.1 in
     let here = at c.with_lowest-held.result c.loop-place.mem (c.loop-place.invariant.0 ∙ c.requires) (omega arith)
-        c.in-At.ensures in
+    c.in-At.ensures in
     let step = executes here c.number_at-n.result c.number_at-n.ensures c.waits.ensures c.if-waits.false
-        c.mode_number_at.result c.mode_number_at.ensures c.wrapping_add.ensures c.wrapping_add-in-At.ensures
-        c.with_pc.ensures c.execute-q.ensures (ap (λ (r : Registers). r.lowest) c.with_lowest-held.ensures)
-        c.smaller-lowest.ensures in
+    c.mode_number_at.result c.mode_number_at.ensures c.wrapping_add.ensures c.wrapping_add-in-At.ensures
+    c.with_pc.ensures c.execute-q.ensures (ap (λ (r : Registers). r.lowest) c.with_lowest-held.ensures)
+    c.smaller-lowest.ensures in
     (c.execute-q.auto.mem ∙ c.loop-place.invariant.0, again i step c.if-left-k.false c.if-once-q.false)
