@@ -10,9 +10,10 @@ use Rattle.opcodes.proofs.Order.{le_or_lt}
 use Rattle.stepper.specs.declared.environment.Environment.{Environment}
 use Rattle.stepper.specs.Answer.{registers_reached}
 use Rattle.stepper.specs.Run.{run_of}
-use Rattle.stepper.specs.Trace.{Event, total, Along, stay, then}
+use Rattle.stepper.specs.Trace.{Event, event_at, total, Along, stay, then}
 use Rattle.ticket.specs.Fields.{Fields}
 use Rattle.rules.specs.Claim.{WithinNeed, Safe}
+use Rattle.rules.specs.InUse.{in_use_after}
 use Rattle.rules.proofs.Budget.{run_home, run_stops}
 
 module _ (f : Fields) (env : Environment) (need : ℕ) where
@@ -21,7 +22,8 @@ module _ (f : Fields) (env : Environment) (need : ℕ) where
       → Along env r m evs e n → Safe f need used (evs ++ rest) → WithinNeed f need r.lowest
       → WithinNeed f need e.lowest
   reached_near used rest stay S near = near
-  reached_near used rest (then away does a) S near = reached_near _ rest a S.1 S.0.lowest_need
+  reached_near used rest (then {r = r} {q = q} {m = m} {ws = ws} {k = k} away does a) S near =
+      let ev = event_at r m q ws k in reached_near (in_use_after ev.flow ev.stores used) rest a S.1 S.0.lowest_need
 
   pub run_near : (used : List (List ℕ)) {r e : Registers} {m n : List ℕ} {evs : List Event} → r.lowest ≡ r.sp
       → length m ≡ 65536 → Along env r m evs e n → e.pc ≡ env.home → Safe f need used evs
