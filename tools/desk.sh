@@ -11,13 +11,12 @@ unset CDPATH # where `cd` goes must be what is written
 # shellcheck source=tools/build.sh
 if [ -r "$folder/tools/build.sh" ]; then
     root=$folder
-    programs=$root/target/bin
     . "$root/tools/build.sh"
 else
-    programs=$folder/../libexec/jugrond
+    made() { printf '%s/../libexec/jugrond/%s' "$folder" "$1"; }
     current_press() { :; }
     current_trace() { :; }
-    version() { cat "$programs/version"; }
+    version() { cat "$(made version)"; }
 fi
 
 # What is wrong with the arguments; the wrapper sets `usage`.
@@ -107,6 +106,6 @@ answer_file() { # PROGRAM'S NAME
 
 # Nothing that the program prints comes to this.
 unexpected() { # PROGRAM
-    say "the program $programs/$1 ended without an answer"
+    say "the program $(made "$1") ended without an answer"
     exit 3
 }

@@ -41,13 +41,13 @@ def named_rows(text):
 
 def named_numbers(text):
     """An action's number and names behind it, on a line of its own."""
-    actions = iter(enumerate(listed(text, "allActions")))
+    actions = iter(enumerate(listed(text, "all_actions")))
 
     def named(line):
         number, action = next(actions)
         return f"{line[1]}  -- {number}: {names(action)}"
 
-    head, body, tail = re.fullmatch(r"(.*^allActions =\n)(.*?)(^    \[\]\n.*)", text, re.M | re.S).groups()
+    head, body, tail = re.fullmatch(r"(.*^all_actions =\n)(.*?)(^    \[\]\n.*)", text, re.M | re.S).groups()
     return head + re.sub(r"^(    .* ∷)(?:  --.*)?$", named, body, flags=re.M) + tail
 
 
@@ -88,7 +88,7 @@ def main():
     if sys.argv[1:] not in ([], ["--check"]):
         sys.exit("usage: opcode_tables.py [--check]")
     old = {file: file.read_text(encoding="utf-8") for file in (ROWS, NUMBERS, TABLE, NUMBERED, DISPATCH)}
-    actions, modes = listed(old[NUMBERS], "allActions"), listed(old[NUMBERS], "allModes")
+    actions, modes = listed(old[NUMBERS], "all_actions"), listed(old[NUMBERS], "all_modes")
     numbers = dict(enumerate(actions))
     new = {
         ROWS: named_rows(old[ROWS]),

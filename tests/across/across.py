@@ -2,9 +2,9 @@
 rules alike, must be refused by the proof of another that needs it.
 
 Each *.edit beside this file has a line 'refused in: CRATE FILE DECLARATION', then blocks as a must-fail edit has them,
-with files from the repository's root; '\\n' in what is new ends a line. On a copy of the tree, with what is proved
-already, the edit is made and the crate is checked: every crate before it must be proved, and its first error must be
-the declaration's."""
+with files from the repository's root; '\\n' in what is new ends a line. On a copy of the tree the edit is made and the
+crate is checked; what is proved already and does not change the toolchain takes from other copies on this machine.
+Every crate before it must be proved, and its first error must be the declaration's."""
 import re
 import shutil
 import subprocess
@@ -46,17 +46,18 @@ def complaint(path, work):
     crate, file, declaration = re.search(r'^refused in: (\S+) (\S+) (\S+)$', text, re.M).groups()
     copy = work / path.stem
     copy.mkdir()
-    for name in ('crates', 'target'):
-        shutil.copytree(ROOT / name, copy / name, ignore=shutil.ignore_patterns('must-fail', 'bin', 'staticlib'))
+    shutil.copytree(ROOT / 'crates', copy / 'crates', ignore=shutil.ignore_patterns('must-fail', 'out'))
     shutil.copy(ROOT / 'crates.txt', copy)
     if wrong := edited(copy, text):
         return wrong
-    log = subprocess.run(['rt', 'dev', crate], cwd=copy, text=True, stdout=subprocess.PIPE, stderr=subprocess.STDOUT,
-                         check=False).stdout
+    log = subprocess.run(['rt', 'check'], cwd=copy / 'crates' / crate, text=True, stdin=subprocess.DEVNULL,
+                         stdout=subprocess.PIPE, stderr=subprocess.STDOUT, check=False).stdout
+    if lacking := re.search(r'^rt: the library (\S+) did not build', log, re.M):
+        return f'{lacking[1]}, before it, is not proved'
     errors = [line for line in log.splitlines() if ': error: ' in line]
     if not errors:
         return f'not refused; the last line is: {log.splitlines()[-1]}'
-    if f'crates/{crate}/{file}:' not in errors[0] or f': error: `{declaration}`: ' not in errors[0]:
+    if not re.match(rf'(\./)?{re.escape(file)}:', errors[0]) or f': error: `{declaration}`: ' not in errors[0]:
         return f'the first error is another: {errors[0]}'
     return None
 

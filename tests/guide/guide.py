@@ -6,6 +6,7 @@
   with marks or windows, up to the mistakes, quote examples/ramp/ramp.s.
 - docs/TICKET.md: the bytes of routine P are those of examples/p/p.tkt, each read aloud with its own numbers; the table
   of commands is that of crates/commands/specs/Rows.antt.
+  What is judged there is judged by the checking program, PRESS in the environment.
 - No page for users names the papers, which its readers do not have.
 """
 import os
@@ -196,7 +197,7 @@ def judged(ticket, image):
     with tempfile.TemporaryDirectory() as folder:
         (pathlib.Path(folder) / 'press.bin').write_bytes(image)
         (pathlib.Path(folder) / 'press.tkt').write_bytes(ticket)
-        return subprocess.run([ROOT / 'target/bin/press'], cwd=folder, capture_output=True, text=True,
+        return subprocess.run([os.environ['PRESS']], cwd=folder, capture_output=True, text=True,
                               check=True).stdout.strip()
 
 

@@ -53,7 +53,7 @@ def stated(text):
 def declared(root, file):
     """Whether a file is part of what is proved and open to others."""
     crate, area, *parts = file.removesuffix('.antt').split('/')
-    if not re.search(rf'^{crate}:', (root / 'crates.txt').read_text(), re.M):
+    if not re.search(rf'^{crate}(?: staticlib)?:', (root / 'crates.txt').read_text(), re.M):
         return False
     above = root / 'crates' / crate / area / 'Lib.antt'
     for i, part in enumerate(parts):
@@ -108,39 +108,39 @@ def wrongs(root):
 
 # Each a kind of fault: its name, the law that it is about and what the test must say of it; a file, and a text of it
 # that is replaced.
-RUN_SUMS = 'run-sums (stepper/proofs/Sum.antt)'
+RUN_SUMS = 'run_sums (stepper/proofs/Sum.antt)'
 SUM, STEPPER = 'crates/stepper/proofs/Sum.antt', 'crates/stepper/proofs/Lib.antt'
 OTHER, RULES = 'another statement', 'crates/ticket/specs/Rules.antt'
 UNPROVED = 'the file is not declared'
 FAULTS = [
-    ('a law deleted', RUN_SUMS, 'not declared there', SUM, 'pub run-sums :', 'pub run-sums-not :'),
-    ('a law made private', RUN_SUMS, 'not public', SUM, 'pub run-sums :', 'run-sums :'),
-    ('a law as an axiom', RUN_SUMS, 'not public', SUM, 'pub run-sums :', 'axiom pub run-sums :'),
-    ('a weakened statement', 'step-cost (stepper/proofs/Costs.antt)', OTHER,
-     'crates/stepper/proofs/Costs.antt', '→ 2 ≤ k .0\n  step-cost', '→ 1 ≤ k .0\n  step-cost'),
+    ('a law deleted', RUN_SUMS, 'not declared there', SUM, 'pub run_sums :', 'pub run_sums_not :'),
+    ('a law made private', RUN_SUMS, 'not public', SUM, 'pub run_sums :', 'run_sums :'),
+    ('a law as an axiom', RUN_SUMS, 'not public', SUM, 'pub run_sums :', 'axiom pub run_sums :'),
+    ('a weakened statement', 'step_cost (stepper/proofs/Costs.antt)', OTHER,
+     'crates/stepper/proofs/Costs.antt', '→ 2 ≤ k.0\n  step_cost', '→ 1 ≤ k.0\n  step_cost'),
     ('a premise more around a law', 'few (ticket/proofs/WrittenRead.antt)', OTHER,
      'crates/ticket/proofs/WrittenRead.antt', '≡ read f) where', '≡ read f) (h : s ≡ []) where'),
-    ('a weakened proposition', 'checked-readable (ticket/proofs/Readable.antt)', OTHER,
-     RULES, 'pub code-start : 1 ≤', 'pub code-start : 0 ≤'),
-    ('a weakened proposition behind others', 'demand-3 (rules/proofs/Demand.antt)', OTHER,
-     RULES, 'pub code-start : 1 ≤', 'pub code-start : 0 ≤'),
-    ('a weakened function of a proposition', 'demand-3 (rules/proofs/Demand.antt)', OTHER,
+    ('a weakened proposition', 'checked_readable (ticket/proofs/Readable.antt)', OTHER,
+     RULES, 'pub code_start : 1 ≤', 'pub code_start : 0 ≤'),
+    ('a weakened proposition behind others', 'demand_3 (rules/proofs/Demand.antt)', OTHER,
+     RULES, 'pub code_start : 1 ≤', 'pub code_start : 0 ≤'),
+    ('a weakened function of a proposition', 'demand_3 (rules/proofs/Demand.antt)', OTHER,
      'crates/rules/specs/InUse.antt', 'calls ws used = addresses ws ∷ used', 'calls ws used = [] ∷ used'),
-    ('another meaning behind a word', 'same-bytes (ticket/proofs/Names.antt)', OTHER,
-     'crates/ticket/specs/RoundTrip.antt', 'use Prim.Native.Nat.{ℕ, _≤_}', 'use Prim.Native.Nat.{ℕ, _<_ as _≤_}'),
+    ('another meaning behind a word', 'same_bytes (ticket/proofs/Names.antt)', OTHER,
+     'crates/ticket/specs/RoundTrip.antt', 'Prelude.{ℕ, ◌≤◌, ', 'Prelude.{ℕ, ◌<◌ as ◌≤◌, '),
     ('a weakened function of laws alone', RUN_SUMS, OTHER,
-     'crates/stepper/specs/Answer.antt', 'cyclesSpent (spent r k) = k .0', 'cyclesSpent (spent r k) = 0'),
+     'crates/stepper/specs/Answer.antt', 'cycles_spent (spent r k) = k.0', 'cycles_spent (spent r k) = 0'),
     ('one of the twelve cases taken out', 'proved (cases/proofs/Table.antt)', OTHER,
-     'crates/cases/specs/Table.antt', '    verdict [] routineP (Refuse (refusal 2 0)) ∷\n', ''),
+     'crates/cases/specs/Table.antt', '    verdict [] routine_p (Refuse (refusal 2 0)) ∷\n', ''),
     ('a file taken out of Lib.antt', RUN_SUMS, UNPROVED, STEPPER, 'pub mod Sum\n', ''),
     ('a file declared for its crate alone', RUN_SUMS, UNPROVED, STEPPER, 'pub mod Sum\n', 'mod Sum\n'),
     ('a crate taken out of crates.txt', 'proved (cases/proofs/Table.antt)', UNPROVED,
      'crates.txt', '\ncases: ', '\n#cases: '),
-    ('a law without its hash', RUN_SUMS, 'not in statements.txt', STATEMENTS, '\nrun-sums ', '\n#run-sums '),
-    ('a law taken out of its table', RUN_SUMS, 'in statements.txt and in no table', PAGE, '| `run-sums` |', '| sums |'),
-    ('a law of the text in no table', 'made-up, in the text', 'in no table', PAGE, 'law `unchanged`', 'law `made-up`'),
-    ('a law said to be cited that is not', ALONE, "the text says [] besides, and not ['run-sums']",
-     PAGE, ' and `run-sums`.', '.'),
+    ('a law without its hash', RUN_SUMS, 'not in statements.txt', STATEMENTS, '\nrun_sums ', '\n#run_sums '),
+    ('a law taken out of its table', RUN_SUMS, 'in statements.txt and in no table', PAGE, '| `run_sums` |', '| sums |'),
+    ('a law of the text in no table', 'made_up, in the text', 'in no table', PAGE, 'law `unchanged`', 'law `made_up`'),
+    ('a law said to be cited that is not', ALONE, "the text says [] besides, and not ['run_sums']",
+     PAGE, ' and `run_sums`.', '.'),
 ]
 
 

@@ -16,6 +16,9 @@ COMMENT = re.compile(r'"(?:\\.|[^"\\])*"|\{-.*?-\}|(?<!\S)--[^\n]*', re.S)
 SIGNATURE = re.compile(r'((?:(?:unfoldable|abbrev|axiom|pub) )*)([^\s(){}.;,@"]+)(?: \{[^}]*\})? : (.*)', re.S)
 TYPE = re.compile(r'((?:pub )?)(record|data) ([^\s(){}.;,@"]+)', re.S)
 USE = re.compile(r'(?:ghost |pub )*use ([^\s{]+?)(?:\.\{(.*)\}| as (\S+))?;?$', re.S)
+# A function's proof files; and what `#[tactic(auto, using(..), unfolding(..))]` gives the search.
+PROOFS = 'Answers', 'Invariants', 'Proof'
+GIVEN = re.compile(r'\b(?:using|unfolding)\(([^()]*)\)')
 ATOM = re.compile(r'[^\s(){};,@"«»]+')
 
 
@@ -89,7 +92,7 @@ def imported(use):
     for entry in (names or '').split(','):
         name, _, other = (part.strip() for part in entry.partition(' as '))
         other = other or name
-        for part in {other, *other.split('_')} - {''}:
+        for part in {other, *other.split('◌')} - {''}:
             yield part, (path, name)
 
 
@@ -108,10 +111,9 @@ class Project:
         """The file of a module of the project: of a type's module the file that the type stands in.
         None for a library's module and for a generated one."""
         if path not in self.module_files:
-            crate, *parts = path.split('.')
-            crate = re.match(r'Rattle·([^·]+)', crate)
-            ends = range(len(parts), 1, -1) if crate else ()
-            names = [self.crates / crate[1] / ('/'.join(parts[:end]) + '.antt') for end in ends]
+            library, *parts = path.split('.')
+            ends = range(len(parts), 2, -1) if library == 'Rattle' else ()
+            names = [self.crates / ('/'.join(parts[:end]) + '.antt') for end in ends]
             self.module_files[path] = next((self.file(name) for name in names if name.is_file()), None)
         return self.module_files[path]
 
@@ -163,9 +165,18 @@ class Project:
         return self.closure(cited, types=False)
 
     def cited_by_proofs(self):
-        """The declarations that the proof of some function leads to."""
-        proofs = [self.file(path) for path in sorted(self.crates.glob('*/proofs/**/Proof.antt'))]
-        return self.closure([d for file in proofs for d in file.declarations.values()])
+        """The declarations that the proof of some function leads to: by its answers and invariants, or by what its code
+        gives the toolchain for a proof of its own."""
+        paths = [path for name in PROOFS for path in sorted(self.crates.glob(f'*/proofs/**/{name}.antt'))]
+        cited = [d for path in paths for d in self.file(path).declarations.values()]
+        for source in sorted(self.crates.glob('*/src/**/*.rt')):
+            crate = source.relative_to(self.crates).parts[0]
+            for given in GIVEN.findall(source.read_text()):
+                for path in re.findall(r'(\w+)::([\w:]+)::([^\s:,()]+)', given):
+                    module = f'Rattle.{crate if path[0] == "crate" else path[0]}.{path[1].replace("::", ".")}'
+                    if (file := self.module(module)) and path[2] in file.declarations:
+                        cited.append(file.declarations[path[2]])
+        return self.closure(cited)
 
     def statement(self, law):
         """The words that a law's hash covers, a line for each declaration and for each origin of a name in it."""

@@ -3,8 +3,23 @@ and the comment at the head of its file, or of its crate's src/lib.rt, says so.
 """
 import re
 
-# a public function, up to the brace that opens its body
-FUNCTION = re.compile(r'^ *pub (?:extern "C" )?fn (\w+)(.*?)\{$', re.S | re.M)
+HEAD = re.compile(r'( *)pub (?:extern "C" )?fn (\w+)')
+CLAUSE = re.compile(r' *(requires|ensures)\b')
+
+
+def functions(text):
+    """Each public function with its clauses: the lines from its head to the brace that opens its body, which ends the
+    head or stands on a line of its own after clauses."""
+    found = None
+    for line in text.split('\n'):
+        if head := HEAD.match(line):
+            found, clauses = head, []
+        if found:
+            if CLAUSE.match(line) or clauses:
+                clauses.append(line)
+            if line == found[1] + '{' or (line.endswith(('{', '}', ';')) and not clauses):
+                yield found[2], clauses
+                found = None
 
 
 def head(path):
@@ -15,8 +30,8 @@ def head(path):
 def wrongs(root):
     """Each file with public functions that have a `requires`, with whether it is said to be inner."""
     for path in sorted(root.glob('crates/*/src/**/*.rt')):
-        functions = FUNCTION.findall(path.read_text())
-        asking = [name for name, contract in functions if re.search(r'\brequires \{', contract)]
+        asking = [name for name, clauses in functions(path.read_text())
+                  if any(re.match(r' *requires\b', line) for line in clauses)]
         if asking:
             name = path.relative_to(root)
             library = root / 'crates' / name.parts[1] / 'src/lib.rt'

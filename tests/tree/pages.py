@@ -40,6 +40,7 @@ def layers(root):
             heading = True
         elif line:
             crate, names = line.split(':')
+            crate = crate.removesuffix(' staticlib')
             below = here & set(names.split()) - above
             if not heading:
                 yield f'{crate} stands under no heading'

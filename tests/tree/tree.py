@@ -24,7 +24,7 @@ FAULTS = [
     ('a definition of a contract among the inner ones', 'crates/lists/specs/inner/Bit.antt',
      None, 'inner/Bit.antt: one'),
     ('a public call that asks something', 'crates/stepper/src/lib.rt',
-     lambda text: text.replace('-> Stepped\n    ensures', '-> Stepped\n    requires { ⌜ r .pc ≡ 0 ⌝ }\n    ensures'),
+     lambda text: text.replace('-> Stepped\n    ensures', '-> Stepped\n    requires { r.pc ≡ 0 }\n    ensures'),
      'lib.rt: step: a public call asks'),
     ('an inner module that does not say so', 'crates/verdict/src/load.rt',
      lambda text: text.replace('An inner module', 'A module'), 'load.rt: inner: no head says so, and fill asks'),
@@ -49,7 +49,7 @@ def seen(root, file, change, said):
     """Whether a fault that is put into a fresh copy is told."""
     with tempfile.TemporaryDirectory() as work:
         copy = Path(work) / 'copy'
-        shutil.copytree(root, copy, ignore=shutil.ignore_patterns('target', '.git'))
+        shutil.copytree(root, copy, ignore=shutil.ignore_patterns('out', 'build', '.git'))
         if change:
             path = copy / file
             path.write_text(change(path.read_text()))
@@ -59,7 +59,7 @@ def seen(root, file, change, said):
             for path in [*copy.glob('crates/**/*.antt'), *copy.glob('crates/**/*.rt')]:
                 text = path.read_text()
                 moved = text.replace('lists.specs.Bit', 'lists.specs.inner.Bit')
-                moved = moved.replace('lists·specs.specs.Bit', 'lists·specs.specs.inner.Bit')
+                moved = moved.replace('specs::Bit::', 'specs::inner::Bit::')
                 if moved != text:
                     path.write_text(moved)
         subprocess.run(['git', 'init', '-q', '.'], cwd=copy, check=True)

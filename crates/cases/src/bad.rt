@@ -15,35 +15,35 @@ fn from(pc: u16) -> Registers {
     Registers::reset().with_pc(pc)
 }
 
-fn kept(before: &[u8], after: &[u8]) {
+fn kept(rt: &impl Print, before: &[u8], after: &[u8]) {
     if same(before, after) {
-        text(b"memory kept\n");
+        text(rt, b"memory kept\n");
     } else {
-        text(b"MEMORY CHANGED\n");
+        text(rt, b"MEMORY CHANGED\n");
     }
 }
 
 // The run begins at home: the length is looked at before it.
-fn length(mem: &mut [u8], pc: u16) {
-    decimal(mem.len() as u64);
-    text(b" bytes, step: ");
-    stepped(step(from(pc), mem));
-    decimal(mem.len() as u64);
-    text(b" bytes, run: ");
-    ran(run(from(pc), mem, Environment { home: pc }, 100));
+fn length(rt: &impl Print, mem: &mut [u8], pc: u16) {
+    decimal(rt, mem.len() as u64);
+    text(rt, b" bytes, step: ");
+    stepped(rt, step(from(pc), mem));
+    decimal(rt, mem.len() as u64);
+    text(rt, b" bytes, run: ");
+    ran(rt, run(from(pc), mem, Environment { home: pc }, 100));
 }
 
-pub fn lengths() {
+pub fn lengths(rt: &impl Print) {
     let mut none = [0u8; 0];
-    length(&mut none, 0);
+    length(rt, &mut none, 0);
     let mut short = [0x01u8; 65535];
     let was_short = [0x01u8; 65535];
-    length(&mut short, 0x8000);
-    kept(&was_short, &short);
+    length(rt, &mut short, 0x8000);
+    kept(rt, &was_short, &short);
     let mut long = [0x01u8; 65537];
     let was_long = [0x01u8; 65537];
-    length(&mut long, 0);
-    kept(&was_long, &long);
+    length(rt, &mut long, 0);
+    kept(rt, &was_long, &long);
 }
 
 // What a step at $8000 comes to: 0 where it is done; the number of a refusal that has PC for its place and kept memory;
@@ -115,56 +115,56 @@ fn tally(prefix: u8) -> Counts {
     n
 }
 
-fn map(name: &[u8], prefix: u8) {
+fn map(rt: &impl Print, name: &[u8], prefix: u8) {
     let n = tally(prefix);
-    text(name);
-    decimal(n.done as u64);
-    text(b" done, ");
-    decimal(n.empty as u64);
-    text(b" refused 22, ");
-    decimal(n.waits as u64);
-    text(b" refused 23, ");
-    decimal(n.wrong as u64);
-    text(b" wrong\n");
+    text(rt, name);
+    decimal(rt, n.done as u64);
+    text(rt, b" done, ");
+    decimal(rt, n.empty as u64);
+    text(rt, b" refused 22, ");
+    decimal(rt, n.waits as u64);
+    text(rt, b" refused 23, ");
+    decimal(rt, n.wrong as u64);
+    text(rt, b" wrong\n");
 }
 
-pub fn places() {
-    map(b"map 0: ", 0);
-    map(b"map 18: ", 0x18);
-    map(b"map 1a: ", 0x1a);
-    map(b"map cd: ", 0xcd);
+pub fn places(rt: &impl Print) {
+    map(rt, b"map 0: ", 0);
+    map(rt, b"map 18: ", 0x18);
+    map(rt, b"map 1a: ", 0x1a);
+    map(rt, b"map cd: ", 0xcd);
 }
 
 // An instruction whose first byte stands at $FFFF.
-fn across(name: &[u8], first: u8, second: u8, third: u8) {
+fn across(rt: &impl Print, name: &[u8], first: u8, second: u8, third: u8) {
     let mut mem = [0u8; 65536];
     put(&mut mem, 0xffff, first);
     put(&mut mem, 0x0000, second);
     put(&mut mem, 0x0001, third);
-    text(name);
-    stepped(step(from(0xffff), &mut mem));
+    text(rt, name);
+    stepped(rt, step(from(0xffff), &mut mem));
 }
 
 // Home comes before a refused opcode, and both before a budget of 0.
-fn no_budget(name: &[u8], pc: u16, op: u8, home: u16) {
+fn no_budget(rt: &impl Print, name: &[u8], pc: u16, op: u8, home: u16) {
     let mut mem = [0u8; 65536];
     put(&mut mem, 0x8000, op);
-    text(name);
-    ran(run(from(pc), &mut mem, Environment { home }, 0));
+    text(rt, name);
+    ran(rt, run(from(pc), &mut mem, Environment { home }, 0));
 }
 
-pub fn wraps() {
-    across(b"LDAA #$42 at $FFFF: ", 0x86, 0x42, 0);
-    across(b"INY at $FFFF: ", 0x18, 0x08, 0);
-    across(b"JMP $1234 at $FFFF: ", 0x7e, 0x12, 0x34);
-    across(b"$18 $18 at $FFFF: ", 0x18, 0x18, 0);
-    across(b"STOP at $FFFF: ", 0xcf, 0, 0);
-    no_budget(b"budget 0, home: ", 0, 0, 0);
-    no_budget(b"budget 0, $41: ", 0x8000, 0x41, 0);
-    no_budget(b"budget 0, WAI: ", 0x8000, 0x3e, 0);
-    no_budget(b"budget 0, NOP: ", 0x8000, 0x01, 0);
-    no_budget(b"budget 0, $41 at home: ", 0x8000, 0x41, 0x8000);
-    no_budget(b"budget 0, WAI at home: ", 0x8000, 0x3e, 0x8000);
-    no_budget(b"budget 0, NOP at home: ", 0x8000, 0x01, 0x8000);
-    no_budget(b"budget 0, TEST at $0000, not home: ", 0, 0, 0x8000);
+pub fn wraps(rt: &impl Print) {
+    across(rt, b"LDAA #$42 at $FFFF: ", 0x86, 0x42, 0);
+    across(rt, b"INY at $FFFF: ", 0x18, 0x08, 0);
+    across(rt, b"JMP $1234 at $FFFF: ", 0x7e, 0x12, 0x34);
+    across(rt, b"$18 $18 at $FFFF: ", 0x18, 0x18, 0);
+    across(rt, b"STOP at $FFFF: ", 0xcf, 0, 0);
+    no_budget(rt, b"budget 0, home: ", 0, 0, 0);
+    no_budget(rt, b"budget 0, $41: ", 0x8000, 0x41, 0);
+    no_budget(rt, b"budget 0, WAI: ", 0x8000, 0x3e, 0);
+    no_budget(rt, b"budget 0, NOP: ", 0x8000, 0x01, 0);
+    no_budget(rt, b"budget 0, $41 at home: ", 0x8000, 0x41, 0x8000);
+    no_budget(rt, b"budget 0, WAI at home: ", 0x8000, 0x3e, 0x8000);
+    no_budget(rt, b"budget 0, NOP at home: ", 0x8000, 0x01, 0x8000);
+    no_budget(rt, b"budget 0, TEST at $0000, not home: ", 0, 0, 0x8000);
 }

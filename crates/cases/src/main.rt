@@ -5,11 +5,11 @@ mod print; // answers as text
 mod documented; // the documents' cases
 mod bad; // memories of other lengths, empty places, and instructions that wrap
 
-fn main() {
-    documented::cases();
-    documented::lowest();
-    documented::homes();
-    bad::lengths();
-    bad::places();
-    bad::wraps();
+fn main(rt: HostRuntime) {
+    documented::cases(&rt);
+    documented::lowest(&rt);
+    documented::homes(&rt);
+    bad::lengths(&rt);
+    bad::places(&rt);
+    bad::wraps(&rt);
 }

@@ -5,44 +5,44 @@ use registers::{Cycles, Registers};
 use stepper::answer::{Ran, Stepped};
 
 // The registers and the cycles.
-fn reached(r: Registers, k: Cycles) {
-    registers(r);
-    text(b" cycles ");
-    decimal(k.0 as u64);
-    text(b"\n");
+fn reached(rt: &impl Print, r: Registers, k: Cycles) {
+    registers(rt, r);
+    text(rt, b" cycles ");
+    decimal(rt, k.0 as u64);
+    text(rt, b"\n");
 }
 
 // Document 01's number and place.
-fn refusal(x: Refusal) {
-    text(b"refused ");
-    decimal(x.number as u64);
-    word(b" at ", (x.place % 65536) as u16);
+fn refusal(rt: &impl Print, x: Refusal) {
+    text(rt, b"refused ");
+    decimal(rt, x.number as u64);
+    word(rt, b" at ", (x.place % 65536) as u16);
 }
 
-pub fn stepped(s: Stepped) {
+pub fn stepped(rt: &impl Print, s: Stepped) {
     match s {
-        Stepped::Done(r, k) => reached(r, k),
+        Stepped::Done(r, k) => reached(rt, r, k),
         Stepped::Refused(x) => {
-            refusal(x);
-            text(b"\n");
+            refusal(rt, x);
+            text(rt, b"\n");
         }
     }
 }
 
-pub fn ran(a: Ran) {
+pub fn ran(rt: &impl Print, a: Ran) {
     match a {
         Ran::Home(r, k) => {
-            text(b"home: ");
-            reached(r, k);
+            text(rt, b"home: ");
+            reached(rt, r, k);
         }
         Ran::Spent(r, k) => {
-            text(b"spent: ");
-            reached(r, k);
+            text(rt, b"spent: ");
+            reached(rt, r, k);
         }
         Ran::Refused(r, k, x) => {
-            refusal(x);
-            text(b": ");
-            reached(r, k);
+            refusal(rt, x);
+            text(rt, b": ");
+            reached(rt, r, k);
         }
     }
 }

@@ -151,6 +151,7 @@ fn return_from(k: Claim, cycles: Cycles) -> u8
 
 // The first cause that applies, or 0. `inside` says that the instruction does not leave the code window; a and b are
 // the claims at the two addresses that `first_next` and `second_next` name.
+#[tactic(auto, unfolding(crate::specs::inner::MarkCause::mark_cause_of))]
 pub fn mark_cause(w: Window, k: Claim, s: Shape, inside: bool, a: Marked, b: Marked) -> u8
     ensures { result ≡ mark_cause_of w k s inside a b }
 {

@@ -10,10 +10,10 @@ use registers::word::wrapping_add;
 pub const OPERAND: u8 = 0x12;
 
 // A number of bytes, where it is not 0.
-fn bytes(what: &[u8], n: u16) {
+fn bytes(rt: &impl Print, what: &[u8], n: u16) {
     if n != 0 {
-        text(what);
-        decimal(n as u64);
+        text(rt, what);
+        decimal(rt, n as u64);
     }
 }
 
@@ -26,42 +26,42 @@ fn written(w: Writes) -> u16 {
 }
 
 // `after` is the address after the instruction.
-fn way(next: Successors, after: u16) {
+fn way(rt: &impl Print, next: Successors, after: u16) {
     match next {
-        Successors::Two(_, _) => text(b"branches"),
+        Successors::Two(_, _) => text(rt, b"branches"),
         Successors::One(a) => {
             if a == after {
-                text(b"goes on");
+                text(rt, b"goes on");
             } else {
-                text(b"jumps");
+                text(rt, b"jumps");
             }
         }
     }
 }
 
-fn ordinary(o: Ordinary, after: u16) {
+fn ordinary(rt: &impl Print, o: Ordinary, after: u16) {
     let next = o.next;
     let pushed = o.pushed;
     let pulled = o.pulled;
     let writes = o.writes;
-    way(next, after);
-    bytes(b", pushes ", pushed.0);
-    bytes(b", pulls ", pulled.0);
-    bytes(b", writes ", written(writes));
+    way(rt, next, after);
+    bytes(rt, b", pushes ", pushed.0);
+    bytes(rt, b", pulls ", pulled.0);
+    bytes(rt, b", writes ", written(writes));
 }
 
-fn wording(s: Shape, after: u16) {
+fn wording(rt: &impl Print, s: Shape, after: u16) {
     match s {
-        Shape::Ordinary(o) => ordinary(o, after),
-        Shape::Call(_) => text(b"calls"),
-        Shape::Return(_) => text(b"returns"),
-        Shape::Forbidden => text(b"kept out"),
-        Shape::Nothing => text(b"no instruction"),
+        Shape::Ordinary(o) => ordinary(rt, o, after),
+        Shape::Call(_) => text(rt, b"calls"),
+        Shape::Return(_) => text(rt, b"returns"),
+        Shape::Forbidden => text(rt, b"kept out"),
+        Shape::Nothing => text(rt, b"no instruction"),
     }
 }
 
 // Of the instruction that begins with these bytes.
-pub fn rule(first: u8, second: u8) {
+pub fn rule(rt: &impl Print, first: u8, second: u8) {
     let tc = costs();
     let ta = actions();
     let tm = modes();
@@ -72,5 +72,5 @@ pub fn rule(first: u8, second: u8) {
     };
     let shaped = shape_at(code, &image, 0x8000, &tc, &ta, &tm);
     let shape = shaped.shape;
-    wording(shape, wrapping_add(0x8000, shaped.size));
+    wording(rt, shape, wrapping_add(0x8000, shaped.size));
 }

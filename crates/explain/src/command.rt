@@ -13,25 +13,25 @@ enum MarkAddress {
     Nowhere,
 }
 
-fn name(b: u8) {
+fn name(rt: &impl Print, b: u8) {
     match b {
-        0x00 => text(b"end"),
-        0x01 => text(b"code window"),
-        0x02 => text(b"data window"),
-        0x03 => text(b"stack window"),
-        0x04 => text(b"entry"),
-        0x05 => text(b"mark"),
-        0x06 => text(b"name"),
-        0x07 => text(b"home"),
-        _ => text(b"unknown"),
+        0x00 => text(rt, b"end"),
+        0x01 => text(rt, b"code window"),
+        0x02 => text(rt, b"data window"),
+        0x03 => text(rt, b"stack window"),
+        0x04 => text(rt, b"entry"),
+        0x05 => text(rt, b"mark"),
+        0x06 => text(rt, b"name"),
+        0x07 => text(rt, b"home"),
+        _ => text(rt, b"unknown"),
     }
 }
 
-fn command(b: u8) {
-    byte(b"command $", b);
-    text(b" (");
-    name(b);
-    text(b")");
+fn command(rt: &impl Print, b: u8) {
+    byte(rt, b"command $", b);
+    text(rt, b" (");
+    name(rt, b);
+    text(rt, b")");
 }
 
 // The latest mark after one more command.
@@ -79,50 +79,50 @@ fn own_address(ticket: &[u8], at: usize) -> MarkAddress {
     MarkAddress::At(number(ticket[at + 1], ticket[at + 2]))
 }
 
-fn after(m: MarkAddress) {
+fn after(rt: &impl Print, m: MarkAddress) {
     match m {
-        MarkAddress::At(a) => word(b", after the mark at $", a),
-        MarkAddress::Nowhere => text(b", before the first mark"),
+        MarkAddress::At(a) => word(rt, b", after the mark at $", a),
+        MarkAddress::Nowhere => text(rt, b", before the first mark"),
     }
 }
 
-fn mark(ticket: &[u8], place: u32) {
+fn mark(rt: &impl Print, ticket: &[u8], place: u32) {
     match own_address(ticket, place as usize) {
-        MarkAddress::At(a) => word(b", of the mark at $", a),
-        MarkAddress::Nowhere => after(mark_before(ticket, place)),
+        MarkAddress::At(a) => word(rt, b", of the mark at $", a),
+        MarkAddress::Nowhere => after(rt, mark_before(ticket, place)),
     }
 }
 
-fn command_line(ticket: &[u8], place: u32) {
+fn command_line(rt: &impl Print, ticket: &[u8], place: u32) {
     let at = place as usize;
     if at < ticket.len() {
         let b = ticket[at];
-        command(b);
+        command(rt, b);
         if b == 0x05 {
-            mark(ticket, place);
+            mark(rt, ticket, place);
         } else {
-            after(mark_before(ticket, place));
+            after(rt, mark_before(ticket, place));
         }
     } else {
-        text(b"end of the ticket");
-        after(mark_before(ticket, place));
+        text(rt, b"end of the ticket");
+        after(rt, mark_before(ticket, place));
     }
-    text(b"\n");
+    text(rt, b"\n");
 }
 
 // A byte after the end is no command, whatever it is.
-fn byte_line(ticket: &[u8], place: u32) {
+fn byte_line(rt: &impl Print, ticket: &[u8], place: u32) {
     let at = place as usize;
     if at < ticket.len() {
-        byte(b"byte $", ticket[at]);
-        text(b", after the end\n");
+        byte(rt, b"byte $", ticket[at]);
+        text(rt, b", after the end\n");
     }
 }
 
-pub fn ticket_line(x: Refusal, ticket: &[u8]) {
+pub fn ticket_line(rt: &impl Print, x: Refusal, ticket: &[u8]) {
     if x.number == 8 {
-        byte_line(ticket, x.place);
+        byte_line(rt, ticket, x.place);
     } else {
-        command_line(ticket, x.place);
+        command_line(rt, ticket, x.place);
     }
 }

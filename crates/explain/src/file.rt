@@ -79,49 +79,49 @@ fn put(s: &[u8], line: &mut [u8]) -> usize
 }
 
 // Up to 80 characters: a record of 32 bytes has 74.
-fn first_line(rest: &[u8]) {
+fn first_line(rt: &impl Print, rest: &[u8]) {
     let mut line = [0u8; 80];
     let n = put(rest, &mut line);
-    text(b"line \"");
-    text(&line[0..n]);
-    text(b"\"");
+    text(rt, b"line \"");
+    text(rt, &line[0..n]);
+    text(rt, b"\"");
     if !ends_at(rest, n) {
-        text(b"..");
+        text(rt, b"..");
     }
     if !ended(rest) {
-        text(b", without a line feed");
+        text(rt, b", without a line feed");
     }
-    text(b"\n");
+    text(rt, b"\n");
 }
 
 // S9 is absent.
-fn end_line(lines: u32) {
-    text(b"end of the file, ");
+fn end_line(rt: &impl Print, lines: u32) {
+    text(rt, b"end of the file, ");
     if lines == 0 {
-        text(b"before the first line\n");
+        text(rt, b"before the first line\n");
     } else {
-        text(b"after line ");
-        decimal(lines as u64);
-        text(b"\n");
+        text(rt, b"after line ");
+        decimal(rt, lines as u64);
+        text(rt, b"\n");
     }
 }
 
-fn line_at(file: &[u8], before: u32) {
+fn line_at(rt: &impl Print, file: &[u8], before: u32) {
     let start = start_of(file, before);
     if start < file.len() {
-        first_line(&file[start..]);
+        first_line(rt, &file[start..]);
     } else {
-        end_line(before);
+        end_line(rt, before);
     }
 }
 
-pub fn file_lines(x: Refusal, file: &[u8], code: Window) {
+pub fn file_lines(rt: &impl Print, x: Refusal, file: &[u8], code: Window) {
     if x.place == 0 {
-        missing_line(file, code);
+        missing_line(rt, file, code);
     } else {
-        line_at(file, x.place - 1);
+        line_at(rt, file, x.place - 1);
     }
     if x.number == 27 {
-        window_line(b"code window", code);
+        window_line(rt, b"code window", code);
     }
 }

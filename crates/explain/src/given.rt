@@ -56,7 +56,7 @@ fn first_missing(file: &[u8], code: Window) -> u16 {
     wrapping_add(code.start, i)
 }
 
-pub fn missing_line(file: &[u8], code: Window) {
-    word(b"in no line: the byte at $", first_missing(file, code));
-    text(b"\n");
+pub fn missing_line(rt: &impl Print, file: &[u8], code: Window) {
+    word(rt, b"in no line: the byte at $", first_missing(file, code));
+    text(rt, b"\n");
 }

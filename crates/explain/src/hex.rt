@@ -2,12 +2,12 @@
 use output::text;
 use text::number::{hex2, hex4};
 
-pub fn byte(label: &[u8], v: u8) {
-    text(label);
-    text(&hex2(v));
+pub fn byte(rt: &impl Print, label: &[u8], v: u8) {
+    text(rt, label);
+    text(rt, &hex2(v));
 }
 
-pub fn word(label: &[u8], v: u16) {
-    text(label);
-    text(&hex4(v));
+pub fn word(rt: &impl Print, label: &[u8], v: u16) {
+    text(rt, label);
+    text(rt, &hex4(v));
 }

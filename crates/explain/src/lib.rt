@@ -10,8 +10,6 @@ use crate::hex::word;
 use crate::place::place_line;
 use crate::words::{to_do, words};
 use answers::{Refusal, Verdict};
-use io::write_all;
-use libc::STDOUT_FILENO;
 use output::{decimal, text};
 use text::verdict::put_verdict;
 use ticket::answer::ReadAnswer;
@@ -26,10 +24,10 @@ mod place; // the instruction at an address
 mod figures; // windows, lengths and the limit
 mod hex; // numbers in hexadecimal
 
-fn verdict_line(x: Refusal) {
+fn verdict_line(rt: &impl Print, x: Refusal) {
     let mut line = [0u8; 64];
     let n = put_verdict(Verdict::Refuse(x), &mut line);
-    write_all(STDOUT_FILENO, &line[0..n]);
+    text(rt, &line[0..n]);
 }
 
 // Whether a cause is found in the ticket's bytes: 1 to 8, and 29 of home.
@@ -43,85 +41,85 @@ pub fn of_file(number: u8) -> bool {
 }
 
 // The place in a ticket is an offset, from 10 to 20 an address; 9 has none.
-fn place_label(x: Refusal) {
+fn place_label(rt: &impl Print, x: Refusal) {
     // An offset fits 16 bits. A ticket's file has at most 65,536 bytes, so only the end of one that long would not: but
     // where the place is the end, the file stops between two commands after 22 + 11 n bytes, with home after 25 + 11 n,
     // and neither is ever 65,536.
     let place = (x.place % 65536) as u16;
     if of_ticket(x.number) {
-        word(b" at offset $", place);
+        word(rt, b" at offset $", place);
         return;
     }
     if 9 < x.number {
-        word(b" at $", place);
+        word(rt, b" at $", place);
     }
 }
 
 // The place in an S-record file is a line, counted from 1, but for a byte that is never given.
-fn line_label(x: Refusal) {
+fn line_label(rt: &impl Print, x: Refusal) {
     if x.place != 0 {
-        text(b" at line ");
-        decimal(x.place as u64);
+        text(rt, b" at line ");
+        decimal(rt, x.place as u64);
     }
 }
 
-fn cause_line(x: Refusal) {
-    decimal(x.number as u64);
+fn cause_line(rt: &impl Print, x: Refusal) {
+    decimal(rt, x.number as u64);
     if of_file(x.number) {
-        line_label(x);
+        line_label(rt, x);
     } else {
-        place_label(x);
+        place_label(rt, x);
     }
-    text(b": ");
-    words(x.number);
-    text(b"\n");
+    text(rt, b": ");
+    words(rt, x.number);
+    text(rt, b"\n");
 }
 
-fn judged_lines(x: Refusal, t: Ticket, image: &[u8]) {
+fn judged_lines(rt: &impl Print, x: Refusal, t: Ticket, image: &[u8]) {
     let h = t.header;
     let code = h.code;
     if x.number == 9 {
-        lengths_line(code, image);
+        lengths_line(rt, code, image);
         return;
     }
-    place_line(t, (x.place % 65536) as u16, image);
-    figures_line(x.number, h);
+    place_line(rt, t, (x.place % 65536) as u16, image);
+    figures_line(rt, x.number, h);
 }
 
 // What stands at the place: in a ticket that is refused at reading a command or a byte, else an instruction or figures.
-fn place_lines(x: Refusal, ticket: &[u8], image: &[u8]) {
+fn place_lines(rt: &impl Print, x: Refusal, ticket: &[u8], image: &[u8]) {
     let reading = read(ticket);
     let answer = reading.answer;
     match answer {
-        ReadAnswer::Refused(_) => ticket_line(x, ticket),
+        ReadAnswer::Refused(_) => ticket_line(rt, x, ticket),
         ReadAnswer::Read => {
             let t = reading.ticket;
-            judged_lines(x, t, image);
+            judged_lines(rt, x, t, image);
         }
     }
 }
 
-fn to_do_line(x: Refusal) {
-    text(b"to do: ");
-    to_do(x.number);
-    text(b"\n");
+fn to_do_line(rt: &impl Print, x: Refusal) {
+    text(rt, b"to do: ");
+    to_do(rt, x.number);
+    text(rt, b"\n");
 }
 
-pub fn refused(x: Refusal, ticket: &[u8], image: &[u8]) {
-    verdict_line(x);
-    cause_line(x);
-    place_lines(x, ticket, image);
-    to_do_line(x);
+pub fn refused(rt: &impl Print, x: Refusal, ticket: &[u8], image: &[u8]) {
+    verdict_line(rt, x);
+    cause_line(rt, x);
+    place_lines(rt, x, ticket, image);
+    to_do_line(rt, x);
 }
 
 // Where an S-record file is refused, so that there is no image: 25 to 27.
-pub fn refused_file(x: Refusal, ticket: &[u8], file: &[u8]) {
+pub fn refused_file(rt: &impl Print, x: Refusal, ticket: &[u8], file: &[u8]) {
     let reading = read(ticket);
     let t = reading.ticket;
     let h = t.header;
     let code = h.code;
-    verdict_line(x);
-    cause_line(x);
-    file_lines(x, file, code);
-    to_do_line(x);
+    verdict_line(rt, x);
+    cause_line(rt, x);
+    file_lines(rt, x, file, code);
+    to_do_line(rt, x);
 }

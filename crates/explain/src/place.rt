@@ -3,11 +3,10 @@ ghost use Rattle.std.specs.Prelude.{◌<◌};
 
 use crate::figures::window_line;
 use commands::header::holds;
-use io::write_all;
-use libc::STDOUT_FILENO;
 use marks::{claim_at, index_of};
 use opcodes::lookup::{Found, found_of};
 use opcodes::table::costs;
+use output::text;
 use registers::word::wrapping_sub;
 use text::listing::{Listing, list};
 use text::number::put_text;
@@ -89,12 +88,12 @@ fn listing_at(image: &[u8], i: usize, a: u16) -> Listing
     }
 }
 
-fn instruction(image: &[u8], i: usize, a: u16, m: Marking)
+fn instruction(rt: &impl Print, image: &[u8], i: usize, a: u16, m: Marking)
     requires { i < 65536 }
 {
     let mut line = [0u8; 256];
     let n = put_place(a, listing_at(image, i, a), m, &mut line);
-    write_all(STDOUT_FILENO, &line[0..n]);
+    text(rt, &line[0..n]);
 }
 
 fn marking_at(t: Ticket, a: u16) -> Marking {
@@ -107,16 +106,16 @@ fn marking_at(t: Ticket, a: u16) -> Marking {
 }
 
 // An entry may lie outside the code window; a mark does not.
-pub fn place_line(t: Ticket, a: u16, image: &[u8]) {
+pub fn place_line(rt: &impl Print, t: Ticket, a: u16, image: &[u8]) {
     let h = t.header;
     let code = h.code;
     if holds(code, a) {
         let i = wrapping_sub(a, code.start) as usize;
-        instruction(image, i, a, marking_at(t, a));
+        instruction(rt, image, i, a, marking_at(t, a));
         if leaves(image, i) {
-            window_line(b"leaves the code window", code);
+            window_line(rt, b"leaves the code window", code);
         }
     } else {
-        window_line(b"outside the code window", code);
+        window_line(rt, b"outside the code window", code);
     }
 }

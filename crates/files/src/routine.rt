@@ -1,8 +1,9 @@
 // A routine's two files in the folder that a program is run in: first the image, press.bin or, where there is none, the
 // S-record file press.s19 (document 02, a); then the ticket, press.tkt.
-ghost use Rattle.io.specs.Counts.{IsPrefixLen};
+ghost use Rattle.files.specs.Counts.{IsPrefixLen};
 
 use crate::{File, load, unfit};
+use std::rt::Files;
 use ticket::read;
 
 // Whether both fit, whether the first is an S-record file, and their lengths.
@@ -21,10 +22,10 @@ struct First {
 }
 
 // A press.bin that is there and does not fit is not replaced.
-fn load_first(buf: &mut [u8]) -> First
+fn load_first(rt: &impl Files, buf: &mut [u8]) -> First
     ensures { IsPrefixLen result.file.length buf.new }
 {
-    let image = load(b"press.bin", buf);
+    let image = load(rt, b"press.bin", buf);
     if !image.missing {
         return First {
             records: false,
@@ -33,26 +34,26 @@ fn load_first(buf: &mut [u8]) -> First
     }
     First {
         records: true,
-        file: load(b"press.s19", buf),
+        file: load(rt, b"press.s19", buf),
     }
 }
 
-fn first_unfit(records: bool) {
+fn first_unfit(rt: &impl Print, records: bool) {
     if records {
-        unfit(b"press.s19");
+        unfit(rt, b"press.s19");
     } else {
-        unfit(b"press.bin");
+        unfit(rt, b"press.bin");
     }
 }
 
 // Where one does not fit, its line is printed and no more is read.
-pub fn load_routine(first: &mut [u8], ticket: &mut [u8]) -> Routine
+pub fn load_routine(rt: &(impl Files + Print), first: &mut [u8], ticket: &mut [u8]) -> Routine
     ensures { IsPrefixLen result.first first.new × IsPrefixLen result.ticket ticket.new }
 {
-    let f = load_first(first);
+    let f = load_first(rt, first);
     let file = f.file;
     if !file.whole {
-        first_unfit(f.records);
+        first_unfit(rt, f.records);
         return Routine {
             whole: false,
             records: f.records,
@@ -60,9 +61,9 @@ pub fn load_routine(first: &mut [u8], ticket: &mut [u8]) -> Routine
             ticket: 0,
         };
     }
-    let t = load(b"press.tkt", ticket);
+    let t = load(rt, b"press.tkt", ticket);
     if !t.whole {
-        unfit(b"press.tkt");
+        unfit(rt, b"press.tkt");
     }
     Routine {
         whole: t.whole,
@@ -80,5 +81,5 @@ pub fn room(ticket: &[u8], buf: &[u8]) -> usize
     let t = reading.ticket;
     let header = t.header;
     let code = header.code;
-    io::count(code.length as isize, buf)
+    (code.length as usize).min(buf.len())
 }

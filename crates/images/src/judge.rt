@@ -22,7 +22,7 @@ fn verdict_in(letter: u8, file: &[u8], bytes: &mut [u8], length: usize) -> Verdi
 }
 
 // Whether the answer is the expected one; another is printed.
-fn answered(v: Verdict, expected: &[u8]) -> bool {
+fn answered(rt: &impl Print, v: Verdict, expected: &[u8]) -> bool {
     let mut line = [0u8; 64];
     let n = put_verdict(v, &mut line);
     if n == 0 {
@@ -32,43 +32,50 @@ fn answered(v: Verdict, expected: &[u8]) -> bool {
     if same(&line[0..end], expected) {
         return true;
     }
-    text(b", BUT FOUND ");
-    text(&line[0..end]);
+    text(rt, b", BUT FOUND ");
+    text(rt, &line[0..end]);
     false
 }
 
 // Whether a buffer of a length is answered as expected and all its bytes come to those expected. What differs is
 // printed.
-fn judged(letter: u8, file: &[u8], length: usize, expected: &[u8], after: &[u8]) -> bool {
+fn judged(
+    rt: &impl Print,
+    letter: u8,
+    file: &[u8],
+    length: usize,
+    expected: &[u8],
+    after: &[u8],
+) -> bool {
     let mut bytes = [0xaau8; 4200];
-    let right = answered(verdict_in(letter, file, &mut bytes, length), expected);
+    let right = answered(rt, verdict_in(letter, file, &mut bytes, length), expected);
     if same(&bytes, after) {
         return right;
     }
-    text(b", WITH OTHER BYTES IN A BUFFER OF ");
-    decimal(length as u64);
+    text(rt, b", WITH OTHER BYTES IN A BUFFER OF ");
+    decimal(rt, length as u64);
     false
 }
 
 // A file that is refused up to 9 leaves each buffer; a good one fills that of the right length, and with the others is
 // refused for it.
-fn judged_three(letter: u8, file: &[u8], expected: &[u8], image: &[u8]) -> bool {
+fn judged_three(rt: &impl Print, letter: u8, file: &[u8], expected: &[u8], image: &[u8]) -> bool {
     let kept = [0xaau8; 4200];
     let mut filled = [0xaau8; 4200];
     let room = room(letter);
     if put_image(image, &mut filled) == 0 {
-        let right = judged(letter, file, room, expected, &kept);
-        let less = judged(letter, file, room - 1, expected, &kept);
-        return right & less & judged(letter, file, room + 1, expected, &kept);
+        let right = judged(rt, letter, file, room, expected, &kept);
+        let less = judged(rt, letter, file, room - 1, expected, &kept);
+        return right & less & judged(rt, letter, file, room + 1, expected, &kept);
     }
-    let right = judged(letter, file, room, expected, &filled);
-    let less = judged(letter, file, room - 1, b"REFUSE 9 0", &kept);
-    right & less & judged(letter, file, room + 1, b"REFUSE 9 0", &kept)
+    let right = judged(rt, letter, file, room, expected, &filled);
+    let less = judged(rt, letter, file, room - 1, b"REFUSE 9 0", &kept);
+    right & less & judged(rt, letter, file, room + 1, b"REFUSE 9 0", &kept)
 }
 
 // A line of the text: the answer; the ticket's letter; the image in the buffer afterwards, empty where it is not
 // written; the file; why. Whether all is as expected.
-pub fn case(s: &[u8]) -> bool {
+pub fn case(rt: &impl Print, s: &[u8]) -> bool {
     let answer_end = field_end(s, 0);
     let letter = next_field(s, answer_end);
     let letter_end = field_end(s, letter);
@@ -77,20 +84,21 @@ pub fn case(s: &[u8]) -> bool {
     let file = next_field(s, image_end);
     let file_end = field_end(s, file);
     let why = next_field(s, file_end);
-    text(&s[why..]);
-    text(b" -> ");
-    text(&s[0..answer_end]);
-    let mut bytes = io::large_buffer();
+    text(rt, &s[why..]);
+    text(rt, b" -> ");
+    text(rt, &s[0..answer_end]);
+    let mut bytes = [0u8; 65536];
     let n = put_file(&s[file..file_end], &mut bytes);
     let mut right = false;
     if n <= 65536 {
         right = judged_three(
+            rt,
             byte_at(s, letter),
             &bytes[0..n],
             &s[0..answer_end],
             &s[image..image_end],
         );
     }
-    text(b"\n");
+    text(rt, b"\n");
     right
 }

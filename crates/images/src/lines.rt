@@ -13,17 +13,17 @@ pub struct Progress {
     pub wrong: usize,
 }
 
-fn line(s: &[u8], from: usize, cases: usize, wrong: usize) -> Progress
+fn line(rt: &impl Print, s: &[u8], from: usize, cases: usize, wrong: usize) -> Progress
     ensures { result.from ≡ from }
 {
     if 0 < s.len() {
         if s[0] == b'#' {
-            text(s);
-            text(b"\n");
+            text(rt, s);
+            text(rt, b"\n");
             return Progress { from, cases, wrong };
         }
     }
-    let more = if case(s) { 0 } else { 1 };
+    let more = if case(rt, s) { 0 } else { 1 };
     Progress {
         from,
         cases: wrapping_add_usize(cases, 1),
@@ -32,25 +32,25 @@ fn line(s: &[u8], from: usize, cases: usize, wrong: usize) -> Progress
 }
 
 // A line feed ends the line that begins at `from`.
-fn next(s: &[u8], p: Progress, i: usize) -> Progress
+fn next(rt: &impl Print, s: &[u8], p: Progress, i: usize) -> Progress
     requires { (p.from ≤ i) × (i < length s.now) }
     ensures { result.from ≤ i + 1 }
 {
     let from = p.from;
     if s[i] == b'\n' {
-        return line(&s[from..i], i + 1, p.cases, p.wrong);
+        return line(rt, &s[from..i], i + 1, p.cases, p.wrong);
     }
     p
 }
 
-pub fn lines(s: &[u8]) -> Progress {
+pub fn lines(rt: &impl Print, s: &[u8]) -> Progress {
     let mut p = Progress {
         from: 0,
         cases: 0,
         wrong: 0,
     };
     for i in 0..s.len() {
-        p = next(s, p, i);
+        p = next(rt, s, p, i);
     }
     p
 }

@@ -3,6 +3,7 @@
 #![tactic(auto)]
 
 use output::{decimal, text};
+use std::fs;
 
 mod bytes; // a file's and an image's bytes from a text
 mod fields; // the fields of a line
@@ -10,18 +11,16 @@ mod tickets; // the tickets that files are judged with
 mod judge; // a file judged with three buffers
 mod lines; // the lines of a text
 
-fn main() {
-    let fd = os::open_read(b"images.txt");
-    if fd < 0 {
-        text(b"images.txt: CANNOT BE OPENED\n");
+fn main(rt: HostRuntime) {
+    let Ok(mut opened) = fs::open(&rt, "images.txt") else {
+        text(&rt, b"images.txt: CANNOT BE OPENED\n");
         return;
-    }
-    let mut file = io::large_buffer();
-    let n = io::read_full(fd, &mut file);
-    libc::close(fd);
-    let end = lines::lines(&file[0..n]);
-    decimal(end.cases as u64);
-    text(b" files, each judged with three buffers: ");
-    decimal(end.wrong as u64);
-    text(b" wrong\n");
+    };
+    let mut file = [0u8; 65536];
+    let n = files::fill(&mut opened, &mut file);
+    let end = lines::lines(&rt, &file[0..n]);
+    decimal(&rt, end.cases as u64);
+    text(&rt, b" files, each judged with three buffers: ");
+    decimal(&rt, end.wrong as u64);
+    text(&rt, b" wrong\n");
 }

@@ -9,7 +9,6 @@ use Rattle.opcodes.specs.declared.instruction.Word.TheVariants as Wd
 use Rattle.opcodes.specs.declared.instruction.Address.{Address}
 use Rattle.opcodes.specs.declared.instruction.Address.TheVariants.{Fixed, IndexedX, IndexedY}
 use Rattle.opcodes.specs.declared.instruction.Operand.{Operand}
-use Rattle.opcodes.specs.declared.instruction.Operand.TheVariants as Operand
 use Rattle.instructions.specs.declared.form.Form.{Form}
 use Rattle.instructions.specs.declared.form.Form.TheVariants.{Computes, StoresByte, StoresWord, PushesByte}
 use Rattle.instructions.specs.declared.form.Form.TheVariants.{PushesWord, PullsByte, PullsWord, Reserves}

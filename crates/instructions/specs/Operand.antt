@@ -9,7 +9,6 @@ use Rattle.instructions.specs.Form.{address_in}
 use Rattle.opcodes.specs.declared.instruction.Address.{Address}
 use Rattle.opcodes.specs.declared.instruction.Address.TheVariants.{Fixed, IndexedX, IndexedY}
 use Rattle.opcodes.specs.declared.instruction.Operand.{Operand}
-use Rattle.opcodes.specs.declared.instruction.Operand.TheVariants as Operand
 
 -- an index offset is unsigned
 unfoldable pub address_of : Address → Registers → ℕ

@@ -2,8 +2,7 @@
 // tests/listings assembles them again.
 #![tactic(auto)]
 
-use io::write_all;
-use libc::STDOUT_FILENO;
+use output::text;
 use text::listing::{Listing, list};
 use text::number::hex4;
 
@@ -26,20 +25,20 @@ fn at(place: u16, pc: u16) -> Listing {
     }
 }
 
-fn show(pc: u16, l: Listing) {
-    write_all(STDOUT_FILENO, &hex4(pc));
-    write_all(STDOUT_FILENO, b"  ");
-    write_all(STDOUT_FILENO, &l.bytes);
-    write_all(STDOUT_FILENO, b"  ");
-    write_all(STDOUT_FILENO, &l.mnemonic);
-    write_all(STDOUT_FILENO, b" ");
-    write_all(STDOUT_FILENO, &l.operand);
-    write_all(STDOUT_FILENO, b"\n");
+fn show(rt: &impl Print, pc: u16, l: Listing) {
+    text(rt, &hex4(pc));
+    text(rt, b"  ");
+    text(rt, &l.bytes);
+    text(rt, b"  ");
+    text(rt, &l.mnemonic);
+    text(rt, b" ");
+    text(rt, &l.operand);
+    text(rt, b"\n");
 }
 
-fn main() {
+fn main(rt: HostRuntime) {
     for place in 0..1024 {
         let pc = 0x8000 + place * 8;
-        show(pc, at(place, pc));
+        show(&rt, pc, at(place, pc));
     }
 }

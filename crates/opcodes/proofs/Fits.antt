@@ -8,7 +8,6 @@ use Rattle.opcodes.specs.declared.instruction.Action.{Action}
 use Rattle.opcodes.specs.declared.instruction.Action.TheVariants.{Inherent}
 use Rattle.opcodes.specs.declared.instruction.Inherent.TheVariants.{Nop}
 use Rattle.opcodes.specs.declared.instruction.Mode.{Mode}
-use Rattle.opcodes.specs.declared.instruction.Mode.TheVariants as Mode
 use Rattle.opcodes.specs.Rows.{rows}
 use Rattle.opcodes.specs.Tables.{actions, modes, action_at, mode_at}
 use Rattle.opcodes.specs.inner.Fits.{fits}

@@ -7,7 +7,6 @@ use native.Mathlib.Omega.{arith}
 use lib.Dec.{eqb}
 use borrow.Author.Tests.{eqb-true, eqb-false}
 use Rattle.opcodes.specs.declared.instruction.Mode.{Mode}
-use Rattle.opcodes.specs.declared.instruction.Mode.TheVariants as Mode
 use Rattle.opcodes.specs.Tables.{cost_at, length_at, mode_at}
 use Rattle.opcodes.specs.Decode.{Bytes, page_of, opcode_size, operand_size, operand_of, instruction_of, place_in}
 use Rattle.opcodes.specs.Decode.{decode_at, decode_of}

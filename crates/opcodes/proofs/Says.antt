@@ -9,7 +9,6 @@ use lib.Dec.{eqb}
 use borrow.Author.Tests.{eq-eqb, eqb-true, eqb-false}
 use Rattle.opcodes.specs.Tables.{cost_at}
 use Rattle.opcodes.specs.declared.lookup.Found.{Found}
-use Rattle.opcodes.specs.declared.lookup.Found.TheVariants as Found
 use Rattle.opcodes.specs.declared.instruction.Decoded.TheVariants.{Nothing}
 use Rattle.opcodes.specs.Decode.{Bytes, opcode_place, opcode_size, decode_at}
 use Rattle.opcodes.specs.inner.Lookup.{found_of}

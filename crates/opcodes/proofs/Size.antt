@@ -5,7 +5,6 @@ use mathlib.Core.Bool.{Bool, true}
 use Prim.Native.Nat.{ℕ, zero, suc, ◌+◌, ◌*◌, ◌/◌}
 use lib.Dec.{T, eqb, eqb→eq}
 use Rattle.opcodes.specs.declared.instruction.Mode.{Mode}
-use Rattle.opcodes.specs.declared.instruction.Mode.TheVariants as Mode
 use Rattle.opcodes.specs.Rows.{Row, rows}
 use Rattle.opcodes.specs.Tables.{costs, modes, cost_at, length_at, mode_at}
 use Rattle.opcodes.specs.Decode.{opcode_size, operand_size}

@@ -3,11 +3,8 @@
 -- Assumes nothing.
 use Rattle.std.specs.Prelude.{ℕ, ◌+◌, ◌*◌, cond, eqb, ltb}
 use Rattle.opcodes.specs.declared.instruction.Address.{Address}
-use Rattle.opcodes.specs.declared.instruction.Address.TheVariants as Address
 use Rattle.opcodes.specs.declared.instruction.Operand.{Operand}
-use Rattle.opcodes.specs.declared.instruction.Operand.TheVariants as Operand
 use Rattle.opcodes.specs.declared.instruction.Mode.{Mode}
-use Rattle.opcodes.specs.declared.instruction.Mode.TheVariants as Mode
 use Rattle.opcodes.specs.declared.instruction.Decoded.{Decoded}
 use Rattle.opcodes.specs.declared.instruction.Decoded.TheVariants.{Instruction, Nothing}
 use Rattle.opcodes.specs.Tables.{cost_at, action_at, mode_at}

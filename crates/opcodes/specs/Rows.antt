@@ -18,7 +18,6 @@ use Rattle.opcodes.specs.declared.instruction.Accumulator.TheVariants as Acc
 use Rattle.opcodes.specs.declared.instruction.Index.TheVariants as Ix
 use Rattle.opcodes.specs.declared.instruction.Word.TheVariants as Wd
 use Rattle.opcodes.specs.declared.instruction.Mode.{Mode}
-use Rattle.opcodes.specs.declared.instruction.Mode.TheVariants as Mode
 
 pub record Row : Type 0 where
   pub place : ℕ

@@ -2,10 +2,8 @@
 -- Assumes nothing.
 use Rattle.std.specs.Prelude.{ℕ, zero, suc, ◌+◌, ◌*◌, ◌/◌, ◌%◌, true, false, List, [], ◌∷◌, eqb, get_or}
 use Rattle.opcodes.specs.declared.instruction.Action.{Action}
-use Rattle.opcodes.specs.declared.instruction.Action.TheVariants as Action
 use Rattle.opcodes.specs.declared.instruction.Inherent.TheVariants as Inherent
 use Rattle.opcodes.specs.declared.instruction.Mode.{Mode}
-use Rattle.opcodes.specs.declared.instruction.Mode.TheVariants as Mode
 use Rattle.opcodes.specs.Rows.{Row, rows}
 
 -- what f has of the row of each of n places from `at` on, and d where no row is. The rows stand in rising order of

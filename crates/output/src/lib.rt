@@ -1,42 +1,40 @@
-// An inner crate of the programs: text, numbers and registers on standard output.
+// An inner crate of the programs: text, numbers and registers on standard output. A write that fails is let go.
 #![tactic(auto)]
 
-use io::{print_decimal, print_hex, write_all};
-use libc::STDOUT_FILENO;
 use registers::Registers;
 
-pub fn text(s: &[u8]) {
-    write_all(STDOUT_FILENO, s);
+pub fn text(rt: &impl Print, s: &[u8]) {
+    let _ = rt.write_all(s);
 }
 
-pub fn decimal(n: u64) {
-    print_decimal(STDOUT_FILENO, n);
+pub fn decimal(rt: &impl Print, n: u64) {
+    let _ = print!(rt; "{n}");
 }
 
-pub fn byte(name: &[u8], v: u8) {
-    text(name);
-    print_hex(STDOUT_FILENO, v as u64, 2);
+pub fn byte(rt: &impl Print, name: &[u8], v: u8) {
+    text(rt, name);
+    let _ = print!(rt; "{v:02x}");
 }
 
-pub fn word(name: &[u8], v: u16) {
-    text(name);
-    print_hex(STDOUT_FILENO, v as u64, 4);
+pub fn word(rt: &impl Print, name: &[u8], v: u16) {
+    text(rt, name);
+    let _ = print!(rt; "{v:04x}");
 }
 
-pub fn registers(r: Registers) {
-    byte(b"A ", r.a);
-    byte(b" B ", r.b);
-    word(b" X ", r.x);
-    word(b" Y ", r.y);
-    word(b" SP ", r.sp);
-    word(b" PC ", r.pc);
-    byte(b" flags ", r.flags);
-    word(b" lowest ", r.lowest);
+pub fn registers(rt: &impl Print, r: Registers) {
+    byte(rt, b"A ", r.a);
+    byte(rt, b" B ", r.b);
+    word(rt, b" X ", r.x);
+    word(rt, b" Y ", r.y);
+    word(rt, b" SP ", r.sp);
+    word(rt, b" PC ", r.pc);
+    byte(rt, b" flags ", r.flags);
+    word(rt, b" lowest ", r.lowest);
 }
 
 // A name, a number and the end of a line.
-pub fn counted(name: &[u8], n: u64) {
-    text(name);
-    decimal(n);
-    text(b"\n");
+pub fn counted(rt: &impl Print, name: &[u8], n: u64) {
+    text(rt, name);
+    decimal(rt, n);
+    text(rt, b"\n");
 }

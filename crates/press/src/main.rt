@@ -4,33 +4,32 @@
 
 use answers::Verdict;
 use files::routine::{load_routine, room};
-use io::write_all;
-use libc::STDOUT_FILENO;
+use output::text;
 use text::verdict::put_verdict;
 use verdict::{verdict, verdict_of_records};
 
-fn print(v: Verdict) {
+fn print(rt: &impl Print, v: Verdict) {
     let mut line = [0u8; 64];
     let n = put_verdict(v, &mut line);
-    write_all(STDOUT_FILENO, &line[0..n]);
+    text(rt, &line[0..n]);
 }
 
-fn judge_records(ticket: &[u8], file: &[u8]) {
-    let mut image = io::large_buffer();
+fn judge_records(rt: &impl Print, ticket: &[u8], file: &[u8]) {
+    let mut image = [0u8; 65536];
     let n = room(ticket, &image);
-    print(verdict_of_records(ticket, file, &mut image[..n]));
+    print(rt, verdict_of_records(ticket, file, &mut image[..n]));
 }
 
-fn main() {
-    let mut first = io::large_buffer();
-    let mut ticket = io::large_buffer();
-    let r = load_routine(&mut first, &mut ticket);
+fn main(rt: HostRuntime) {
+    let mut first = [0u8; 65536];
+    let mut ticket = [0u8; 65536];
+    let r = load_routine(&rt, &mut first, &mut ticket);
     if !r.whole {
         return;
     }
     if r.records {
-        judge_records(&ticket[..r.ticket], &first[..r.first]);
+        judge_records(&rt, &ticket[..r.ticket], &first[..r.first]);
     } else {
-        print(verdict(&ticket[..r.ticket], &first[..r.first]));
+        print(&rt, verdict(&ticket[..r.ticket], &first[..r.first]));
     }
 }

@@ -25,9 +25,6 @@ pub record Reached (w : Window) (file cs : List ℕ) (p : FileProgress) (at : �
   pub size : length cs ≡ 4096
   pub course : file_from w p cs (lines_of (drop at file)) ≡ file_of w file
 
-pub blank_sized : (cs : List ℕ) → cs ≡ blank_cells → length cs ≡ 4096
-blank_sized cs e = ap length e ∙ blank_size
-
 pub begins : (w : Window) (file : List ℕ) → Reached w file blank_cells initial 0
 unfolding file_of
 begins w file = record {

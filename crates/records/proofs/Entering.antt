@@ -26,7 +26,7 @@ given_is x a b e f = rw (e, f)
 module _ (w : Window) where
   -- a free address lies in the window, and its cell is not given
   free_says : (cs : List ℕ) (a : ℕ) → free w cs a ≡ true → In w a × (256 ≤ get_or cs (a - w.start) 0)
-  free_says cs a e = simp (and-eq-true_iff, leb_says, ltb_says) at e
+  free_says cs a e = simp (and-eq-true_iff, leb_says) at e
 
   free_is : (cs : List ℕ) (a : ℕ) → In w a → 256 ≤ get_or cs (a - w.start) 0 → free w cs a ≡ true
   free_is cs a i h = simp (le-leb _ _ i.0, lt-ltb _ _ i.1, le-leb _ _ h)
@@ -103,6 +103,7 @@ module _ (w : Window) where
     -- each byte is found at its place
     pub found : (g : List Given) (cs ds : List ℕ) → length cs ≡ 4096 → Bytes g → enter w cs g ≡ some ds → (x : Given)
         → Gives x g → get_or ds (x.address - w.start) 0 ≡ x.byte
+    found [] cs ds size b e y r = elim r [ ]
     found (x ∷ g) cs ds size (more h b) e y here =
         let f = entered_first cs ds x g e in
         let o = own cs x size f.0.0 in

@@ -1,5 +1,4 @@
 mod Rest
-mod Ends
 mod DecodePairs
 mod DecodeSoFar
 mod RecordBytes

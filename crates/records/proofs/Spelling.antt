@@ -146,7 +146,7 @@ read_spelled (c ∷ []) bs e = by_end (ends_of (c ∷ [])) refl e
   where
     by_end : (t : Bool) → ends_of (c ∷ []) ≡ t → cond t (some []) none ≡ some bs → Spelled (c ∷ []) bs
     by_end true f e = at_end f e
-    by_end false f e = absurd (none-ne-some _ e)
+    by_end false f e = absurd (none-ne-some bs e)
 read_spelled (c ∷ d ∷ s) bs e = by_tests (read_spelled s) (ends_of (c ∷ d ∷ s)) refl (is_pair c d) refl e
   where
     by_tests : ((ys : List ℕ) → bytes_of s ≡ some ys → Spelled s ys) → (t : Bool) → ends_of (c ∷ d ∷ s) ≡ t
@@ -155,6 +155,6 @@ read_spelled (c ∷ d ∷ s) bs e = by_tests (read_spelled s) (ends_of (c ∷ d 
     by_tests onward true f p q e = at_end f e
     by_tests onward false f false q e = absurd (none-ne-some _ e)
     by_tests onward false f true q e =
-        let b = before_some _ _ bs e in
+        let b = before_some (pair_of c d ∷ []) (bytes_of s) bs e in
         let h = simp (and-eq-true_iff, ltb_says) at q in
         rw b.2 at (pair_spelled c d h.0 h.1 (onward b.0 b.1))

@@ -12,4 +12,3 @@ pub mod EnoughTurns
 pub mod Sum
 pub mod Lowest
 pub mod Apart
-pub mod RecordCell

@@ -10,6 +10,7 @@ use crate::number::{hex2, hex4};
 use registers::Registers;
 
 // The address, the bytes, the mnemonic and the operand.
+#[tactic(auto, unfolding(crate::specs::Columns::listing_text))]
 pub fn with_listing(l: Line, pc: u16, t: Listing) -> Line
     requires { l.len + 43 ≤ 256 }
     ensures { (written result ≡ written l ++ listing_text pc t) × (result.len ≡ l.len + 43) }
@@ -35,6 +36,7 @@ fn flag(on: bool, letter: u8) -> u8
 }
 
 // S X H I N Z V C.
+#[tactic(auto, unfolding(crate::specs::Columns::flags_text))]
 fn flags(n: u8) -> [u8; 8]
     ensures { result ≡ flags_text n }
 {
@@ -69,6 +71,7 @@ pub fn with_word(l: Line, label: &[u8], v: u16) -> Line
 }
 
 // A, B, X, Y, SP and the flags, as an instruction leaves them.
+#[tactic(auto, unfolding(crate::specs::Columns::registers_text))]
 pub fn with_registers(l: Line, r: Registers) -> Line
     requires { l.len + 41 ≤ 256 }
     ensures { (written result ≡ written l ++ registers_text r) × (result.len ≡ l.len + 41) }

@@ -19,6 +19,7 @@ pub struct Totals {
     pub home: u16,
 }
 
+#[tactic(auto, unfolding(crate::specs::Last::totals_text))]
 fn line(label: &[u8], t: Totals) -> Line
     requires { length label.now ≤ 32 }
     ensures { (written result ≡ totals_text label.now t) × (result.len ≤ 256) }

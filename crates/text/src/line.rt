@@ -13,6 +13,7 @@ pub struct Line {
     pub len: usize,
 }
 
+#[tactic(auto, unfolding(crate::specs::Line::written))]
 pub fn empty() -> Line
     ensures { (written result ≡ []) × (result.len ≡ 0) }
 {
@@ -22,6 +23,7 @@ pub fn empty() -> Line
     }
 }
 
+#[tactic(auto, using(crate::proofs::Written::grown), unfolding(crate::specs::Line::written))]
 pub fn with_text(l: Line, s: &[u8]) -> Line
     requires { l.len + length s.now ≤ 256 }
     ensures { (written result ≡ written l ++ s.now) × (result.len ≡ l.len + length s.now) }
@@ -31,6 +33,7 @@ pub fn with_text(l: Line, s: &[u8]) -> Line
     Line { bytes, len }
 }
 
+#[tactic(auto, using(crate::proofs::Written::grown), unfolding(crate::specs::Line::written))]
 fn with_number(l: Line, n: u32) -> Line
     requires { l.len + 10 ≤ 256 }
     ensures { (written result ≡ written l ++ decimal_of n) × (result.len ≤ l.len + 10) }
@@ -40,6 +43,7 @@ fn with_number(l: Line, n: u32) -> Line
     Line { bytes, len }
 }
 
+#[tactic(auto, unfolding(crate::specs::Line::field_text))]
 pub fn with_field(l: Line, label: &[u8], n: u32) -> Line
     requires { l.len + length label.now + 10 ≤ 256 }
     ensures { (written result ≡ written l ++ field_text label.now n)
@@ -49,6 +53,7 @@ pub fn with_field(l: Line, label: &[u8], n: u32) -> Line
 }
 
 // What was used of what is allowed.
+#[tactic(auto, unfolding(crate::specs::Line::pair_text))]
 pub fn with_pair(l: Line, label: &[u8], used: u32, allowed: u32) -> Line
     requires { l.len + length label.now + 21 ≤ 256 }
     ensures { (written result ≡ written l ++ pair_text label.now used allowed)
@@ -59,6 +64,7 @@ pub fn with_pair(l: Line, label: &[u8], used: u32, allowed: u32) -> Line
 }
 
 // How many bytes the line has; it stands at the beginning of the output.
+#[tactic(auto, unfolding(crate::specs::Line::written))]
 pub fn put(l: Line, out: &mut [u8]) -> usize
     requires { (l.len ≤ 256) × (length out.old ≡ 256) }
     ensures { (out.new ≡ spliced out.old 0 (written l)) × (result ≡ length (written l))

@@ -154,6 +154,7 @@ fn four(name: [u8; 3], letter: u8) -> [u8; 5]
     [name[0], name[1], name[2], letter, b' ']
 }
 
+#[tactic(auto, unfolding(crate::specs::Mnemonic::mnemonic_of))]
 pub fn mnemonic(a: Action, m: Mode) -> [u8; 5]
     ensures { result ≡ mnemonic_of a m }
 {

@@ -33,6 +33,7 @@ pub fn hex2(n: u8) -> [u8; 2]
 }
 
 // A word in four.
+#[tactic(auto, unfolding(crate::specs::Number::hex_of))]
 pub fn hex4(n: u16) -> [u8; 4]
     ensures { result ≡ hex_of n }
 {

@@ -17,6 +17,7 @@ pub enum Marking {
 }
 
 // Cost, depth and need, as claimed.
+#[tactic(auto, unfolding(crate::specs::Place::marking_text))]
 fn with_marking(l: Line, m: Marking) -> Line
     requires { l.len + 49 ≤ 256 }
     ensures { (written result ≡ written l ++ marking_text m) × (result.len ≤ l.len + 49) }
@@ -31,6 +32,7 @@ fn with_marking(l: Line, m: Marking) -> Line
     }
 }
 
+#[tactic(auto, unfolding(crate::specs::Place::place_line))]
 fn line(address: u16, t: Listing, m: Marking) -> Line
     ensures { (written result ≡ place_line address t m) × (result.len ≤ 256) }
 {

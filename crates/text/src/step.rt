@@ -23,6 +23,7 @@ pub struct Traced {
 }
 
 // Cost, depth and need, each as used of what is claimed.
+#[tactic(auto, unfolding(crate::specs::Step::claims_text))]
 fn with_claims(l: Line, used: Claim, claim: Claim) -> Line
     requires { l.len + 82 ≤ 256 }
     ensures { (written result ≡ written l ++ claims_text used claim) × (result.len ≤ l.len + 82) }
@@ -32,6 +33,7 @@ fn with_claims(l: Line, used: Claim, claim: Claim) -> Line
     with_pair(b, b" need=", used.need.0 as u32, claim.need.0 as u32)
 }
 
+#[tactic(auto, unfolding(crate::specs::Step::step_line))]
 fn line(t: Traced) -> Line
     ensures { (written result ≡ step_line t) × (result.len ≤ 256) }
 {

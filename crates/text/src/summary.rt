@@ -66,6 +66,7 @@ impl Visits {
 }
 
 // Where it was never executed there is nothing more to say.
+#[tactic(auto, unfolding(crate::specs::Summary::visits_text))]
 fn with_visits(l: Line, v: Visits) -> Line
     requires { l.len + 62 ≤ 256 }
     ensures { (written result ≡ written l ++ visits_text v) × (result.len ≤ l.len + 62) }
@@ -79,6 +80,7 @@ fn with_visits(l: Line, v: Visits) -> Line
     with_word(c, b" lowest=", v.lowest)
 }
 
+#[tactic(auto, unfolding(crate::specs::Summary::summary_line))]
 fn line(address: u16, t: Listing, v: Visits, cost: Cycles) -> Line
     ensures { (written result ≡ summary_line address t v cost.0) × (result.len ≤ 256) }
 {

@@ -95,15 +95,15 @@ fn kept(written: usize, out: &[u8]) -> bool {
     same(&out[written..], &before[written..n])
 }
 
-fn answer(w: Written) -> usize {
+fn answer(rt: &impl Print, w: Written) -> usize {
     match w {
         Written::Refused(r) => {
-            refusal(r);
+            refusal(rt, r);
             0
         }
         Written::Length(n) => {
-            decimal(n as u64);
-            text(b" bytes");
+            decimal(rt, n as u64);
+            text(rt, b" bytes");
             n as usize
         }
     }
@@ -117,17 +117,17 @@ fn write_in(t: Ticket, out: &mut [u8], room: usize) -> Written {
     write(t, &mut out[0..room])
 }
 
-pub fn wrote(s: &[u8]) {
+pub fn wrote(rt: &impl Print, s: &[u8]) {
     let mut out = [0xaau8; 90200];
     if s.len() < 95 {
         return;
     }
-    text(&s[95..]);
-    text(b" -> ");
+    text(rt, &s[95..]);
+    text(rt, b" -> ");
     let w = write_in(altered(s), &mut out, long(s, 3) as usize);
-    if kept(answer(w), &out) {
-        text(b", the rest kept\n");
+    if kept(answer(rt, w), &out) {
+        text(rt, b", the rest kept\n");
     } else {
-        text(b", THE REST CHANGED\n");
+        text(rt, b", THE REST CHANGED\n");
     }
 }

@@ -6,36 +6,36 @@ use crate::fields::wrote;
 use crate::show::show;
 use output::text;
 
-fn line(s: &[u8]) {
+fn line(rt: &impl Print, s: &[u8]) {
     if 0 < s.len() {
         if s[0] == b'#' {
-            text(s);
-            text(b"\n");
+            text(rt, s);
+            text(rt, b"\n");
             return;
         }
         if s[0] == b'=' {
-            wrote(s);
+            wrote(rt, s);
             return;
         }
     }
-    show(s);
+    show(rt, s);
 }
 
 // Where the line begins that goes on after index i: a line feed ends the one that begins at `from`.
-fn begin(s: &[u8], from: usize, i: usize) -> usize
+fn begin(rt: &impl Print, s: &[u8], from: usize, i: usize) -> usize
     requires { (from ≤ i) × (i < length s.now) }
     ensures { result ≤ i + 1 }
 {
     if s[i] == b'\n' {
-        line(&s[from..i]);
+        line(rt, &s[from..i]);
         return i + 1;
     }
     from
 }
 
-pub fn lines(s: &[u8]) {
+pub fn lines(rt: &impl Print, s: &[u8]) {
     let mut from = 0;
     for i in 0..s.len() {
-        from = begin(s, from, i);
+        from = begin(rt, s, from, i);
     }
 }

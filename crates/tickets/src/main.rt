@@ -3,6 +3,7 @@
 #![tactic(auto)]
 
 use output::text;
+use std::fs;
 
 mod build; // a ticket's bytes from a short text
 mod fields; // tickets given to the writer as fields
@@ -11,14 +12,12 @@ mod plain; // what the writer makes of a ticket, without it
 mod print; // a refusal as text
 mod show; // what is answered
 
-fn main() {
-    let fd = os::open_read(b"tickets.txt");
-    if fd < 0 {
-        text(b"tickets.txt: CANNOT BE OPENED\n");
+fn main(rt: HostRuntime) {
+    let Ok(mut opened) = fs::open(&rt, "tickets.txt") else {
+        text(&rt, b"tickets.txt: CANNOT BE OPENED\n");
         return;
-    }
-    let mut file = io::large_buffer();
-    let n = io::read_full(fd, &mut file);
-    libc::close(fd);
-    lines::lines(&file[0..n]);
+    };
+    let mut file = [0u8; 65536];
+    let n = files::fill(&mut opened, &mut file);
+    lines::lines(&rt, &file[0..n]);
 }

@@ -3,8 +3,8 @@ use answers::Refusal;
 use output::{decimal, text};
 
 // Document 01's number and place.
-pub fn refusal(r: Refusal) {
-    decimal(r.number as u64);
-    text(b" at ");
-    decimal(r.place as u64);
+pub fn refusal(rt: &impl Print, r: Refusal) {
+    decimal(rt, r.number as u64);
+    text(rt, b" at ");
+    decimal(rt, r.place as u64);
 }

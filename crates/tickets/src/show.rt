@@ -43,56 +43,56 @@ fn again_with_home(t: Ticket, bytes: &[u8]) -> bool {
 }
 
 // What was written again gained and lost.
-fn changes(home: bool, names: bool) {
+fn changes(rt: &impl Print, home: bool, names: bool) {
     if home {
-        text(b" with 07 0000 added");
+        text(rt, b" with 07 0000 added");
     }
     if home & names {
-        text(b",");
+        text(rt, b",");
     }
     if names {
-        text(b" without its names");
+        text(rt, b" without its names");
     }
     if !(home | names) {
-        text(b" the same");
+        text(rt, b" the same");
     }
 }
 
-fn rewritten(t: Ticket, bytes: &[u8]) {
+fn rewritten(rt: &impl Print, t: Ticket, bytes: &[u8]) {
     let mut unnamed = [0u8; 90200];
     let n = without_names(bytes, &mut unnamed);
     if n <= 90200 {
         if again_with_home(t, &unnamed[0..n]) {
-            text(b"written again");
-            changes(!has_home(bytes), n < bytes.len());
+            text(rt, b"written again");
+            changes(rt, !has_home(bytes), n < bytes.len());
             return;
         }
     }
-    text(b"WRITTEN AGAIN OTHERWISE");
+    text(rt, b"WRITTEN AGAIN OTHERWISE");
 }
 
-fn answered(bytes: &[u8]) {
+fn answered(rt: &impl Print, bytes: &[u8]) {
     let r = read(bytes);
     let answer = r.answer;
     let t = r.ticket;
     match answer {
-        ReadAnswer::Refused(x) => refusal(x),
+        ReadAnswer::Refused(x) => refusal(rt, x),
         ReadAnswer::Read => {
-            text(b"read, ");
-            decimal(t.count as u64);
-            text(b" marks, ");
-            rewritten(t, bytes);
+            text(rt, b"read, ");
+            decimal(rt, t.count as u64);
+            text(rt, b" marks, ");
+            rewritten(rt, t, bytes);
         }
     }
 }
 
-pub fn show(s: &[u8]) {
+pub fn show(rt: &impl Print, s: &[u8]) {
     let mut bytes = [0u8; 90200];
     let n = build(s, &mut bytes);
-    text(s);
-    text(b" -> ");
+    text(rt, s);
+    text(rt, b" -> ");
     if n <= 90200 {
-        answered(&bytes[0..n]);
+        answered(rt, &bytes[0..n]);
     }
-    text(b"\n");
+    text(rt, b"\n");
 }

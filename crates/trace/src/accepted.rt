@@ -2,8 +2,7 @@
 use crate::options::Options;
 use crate::steps::{steps, summary};
 use explain::refused;
-use io::write_all;
-use libc::STDOUT_FILENO;
+use output::text;
 use registers::word::{wrapping_add, wrapping_sub};
 use registers::{Cycles, Registers, StackBytes};
 use stepper::answer::Ran;
@@ -20,28 +19,37 @@ fn used(start: Registers, reached: Registers) -> StackBytes {
     StackBytes(wrapping_sub(wrapping_add(start.sp, 2), reached.lowest))
 }
 
-fn home(t: Totals) {
+fn home(rt: &impl Print, t: Totals) {
     let mut line = [0u8; 256];
     let n = put_home(t, &mut line);
-    write_all(STDOUT_FILENO, &line[0..n]);
+    text(rt, &line[0..n]);
 }
 
-fn spent(t: Totals) {
+fn spent(rt: &impl Print, t: Totals) {
     let mut line = [0u8; 256];
     let n = put_spent(t, &mut line);
-    write_all(STDOUT_FILENO, &line[0..n]);
+    text(rt, &line[0..n]);
 }
 
-fn walk(t: Ticket, r: Registers, mem: [u8; 65536], total: u32, cost: Cycles, summarised: bool) {
+fn walk(
+    rt: &impl Print,
+    t: Ticket,
+    r: Registers,
+    mem: [u8; 65536],
+    total: u32,
+    cost: Cycles,
+    summarised: bool,
+) {
     if summarised {
-        summary(t, r, mem, total, cost.0);
+        summary(rt, t, r, mem, total, cost.0);
     } else {
-        steps(t, r, mem, total, cost.0);
+        steps(rt, t, r, mem, total, cost.0);
     }
 }
 
 // How far the budget goes is the run's own answer; the instructions up to there are then done one by one.
 fn trace(
+    rt: &impl Print,
     t: Ticket,
     r: Registers,
     e: Environment,
@@ -54,32 +62,39 @@ fn trace(
     let budget = if o.limited { o.budget } else { cost.0 };
     match run(r, &mut copy, e, budget) {
         Ran::Home(q, k) => {
-            walk(t, r, mem, k.0, cost, o.summary);
-            home(Totals {
-                cycles: k,
-                allowed: cost,
-                stack: used(r, q),
-                certified,
-                lowest: q.lowest,
-                home: e.home,
-            });
+            walk(rt, t, r, mem, k.0, cost, o.summary);
+            home(
+                rt,
+                Totals {
+                    cycles: k,
+                    allowed: cost,
+                    stack: used(r, q),
+                    certified,
+                    lowest: q.lowest,
+                    home: e.home,
+                },
+            );
         }
         Ran::Spent(q, k) => {
-            walk(t, r, mem, k.0, cost, o.summary);
-            spent(Totals {
-                cycles: k,
-                allowed: Cycles(budget),
-                stack: used(r, q),
-                certified,
-                lowest: q.lowest,
-                home: e.home,
-            });
+            walk(rt, t, r, mem, k.0, cost, o.summary);
+            spent(
+                rt,
+                Totals {
+                    cycles: k,
+                    allowed: Cycles(budget),
+                    stack: used(r, q),
+                    certified,
+                    lowest: q.lowest,
+                    home: e.home,
+                },
+            );
         }
         Ran::Refused(_, _, _) => {}
     }
 }
 
 pub fn accepted(
+    rt: &impl Print,
     o: Options,
     ticket: &[u8],
     image: &[u8],
@@ -90,11 +105,11 @@ pub fn accepted(
     let mut m = mem;
     let start = o.start;
     match start_routine(ticket, image, start, &mut m) {
-        Started::Refused(x) => refused(x, ticket, image),
+        Started::Refused(x) => refused(rt, x, ticket, image),
         Started::At(r, home) => {
             let reading = read(ticket);
             let t = reading.ticket;
-            trace(t, r, Environment { home }, m, o, cost, stack);
+            trace(rt, t, r, Environment { home }, m, o, cost, stack);
         }
     }
 }

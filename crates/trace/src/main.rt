@@ -10,9 +10,10 @@ use bad_argument::say_why;
 use explain::{of_file, refused, refused_file};
 use files::routine::{load_routine, room};
 use files::{load, unfit};
-use io::write_all;
-use libc::STDERR_FILENO;
 use options::Options;
+use output::text;
+use std::env::Env;
+use std::rt::Files;
 use verdict::{verdict, verdict_of_records};
 
 // the arguments
@@ -22,72 +23,82 @@ mod bad_argument; // one that says nothing
 mod accepted; // its trace
 mod steps; // the instructions of a run
 
-fn usage() {
-    write_all(
-        STDERR_FILENO,
+fn usage(err: &impl Print) {
+    text(
+        err,
         b"usage: trace [a=HH] [b=HH] [x=HHHH] [y=HHHH] [flags=HH] [budget=N] [memory=FILE] [summary]\n",
     );
 }
 
 // The file that argument number i names, from address $0000 on. Whether it could be read.
-fn load_memory(i: usize, mem: &mut [u8]) -> bool {
-    let mut name = io::buffer();
-    let n = os::arg(i, &mut name);
+fn load_memory(rt: &(impl Env + Files + Print), i: usize, mem: &mut [u8]) -> bool {
+    let mut name = [0u8; 4096];
+    let Ok(n) = rt.arg(i, &mut name) else {
+        return false;
+    };
     if n < 7 {
         return false;
     }
-    let file = load(&name[7..n], mem);
+    let file = load(rt, &name[7..n], mem);
     if !file.whole {
-        unfit(&name[7..n]);
+        unfit(rt, &name[7..n]);
     }
     file.whole
 }
 
-fn judge(o: Options, ticket: &[u8], image: &[u8], mem: [u8; 65536]) {
+fn judge(rt: &impl Print, o: Options, ticket: &[u8], image: &[u8], mem: [u8; 65536]) {
     match verdict(ticket, image) {
-        Verdict::Refuse(x) => refused(x, ticket, image),
-        Verdict::Accept(_, cost, stack) => accepted(o, ticket, image, mem, cost, stack),
+        Verdict::Refuse(x) => refused(rt, x, ticket, image),
+        Verdict::Accept(_, cost, stack) => accepted(rt, o, ticket, image, mem, cost, stack),
     }
 }
 
 // The same for an S-record file, with a buffer for the image that it names. Where the file itself is refused there is
 // no image.
-fn judge_records(o: Options, ticket: &[u8], file: &[u8], image: &mut [u8], mem: [u8; 65536]) {
+fn judge_records(
+    rt: &impl Print,
+    o: Options,
+    ticket: &[u8],
+    file: &[u8],
+    image: &mut [u8],
+    mem: [u8; 65536],
+) {
     match verdict_of_records(ticket, file, image) {
         Verdict::Refuse(x) => {
             if of_file(x.number) {
-                refused_file(x, ticket, file);
+                refused_file(rt, x, ticket, file);
             } else {
-                refused(x, ticket, image);
+                refused(rt, x, ticket, image);
             }
         }
-        Verdict::Accept(_, cost, stack) => accepted(o, ticket, image, mem, cost, stack),
+        Verdict::Accept(_, cost, stack) => accepted(rt, o, ticket, image, mem, cost, stack),
     }
 }
 
-fn main() {
-    let o = options::read();
+fn main(rt: HostRuntime) {
+    let o = options::read(&rt);
     if o.bad != 0 {
-        say_why(o.bad);
-        usage();
+        say_why(&rt, &rt.stderr(), o.bad);
+        usage(&rt.stderr());
         return;
     }
-    let mut first = io::large_buffer();
-    let mut ticket = io::large_buffer();
-    let mut mem = io::large_buffer();
-    let r = load_routine(&mut first, &mut ticket);
+    let mut first = [0u8; 65536];
+    let mut ticket = [0u8; 65536];
+    let mut mem = [0u8; 65536];
+    let r = load_routine(&rt, &mut first, &mut ticket);
     if !r.whole {
         return;
     }
     if o.memory != 0 {
-        if !load_memory(o.memory, &mut mem) {
+        if !load_memory(&rt, o.memory, &mut mem) {
             return;
         }
     }
     if r.records {
-        let mut image = io::large_buffer();
+        let mut image = [0u8; 65536];
         let n = room(&ticket[..r.ticket], &image);
         judge_records(
+            &rt,
             o,
             &ticket[..r.ticket],
             &first[..r.first],
@@ -95,6 +106,6 @@ fn main() {
             mem,
         );
     } else {
-        judge(o, &ticket[..r.ticket], &first[..r.first], mem);
+        judge(&rt, o, &ticket[..r.ticket], &first[..r.first], mem);
     }
 }

@@ -1,6 +1,7 @@
 // What the arguments ask for.
 use arguments::argument::{Argument, Setting, argument_in};
 use registers::Data;
+use std::env::{Env, FillError};
 
 // `memory` is the number of the argument that names a file, `bad` that of the first one that says nothing; 0 where
 // there is none.
@@ -80,20 +81,23 @@ fn with(o: Options, a: Argument, i: usize) -> Options {
     r
 }
 
-// One that is longer than a path can be is read as an empty one.
-fn read_one(o: Options, i: usize) -> Options {
-    let mut buf = io::buffer();
-    let n = os::arg(i, &mut buf);
-    with(o, argument_in(&buf[..n]), i)
+// One that is longer than a path can be is read as an empty one. None where there is no argument of that number.
+fn read_one(rt: &impl Env, o: Options, i: usize) -> Option<Options> {
+    let mut buf = [0u8; 4096];
+    match rt.arg(i, &mut buf) {
+        Ok(n) => Some(with(o, argument_in(&buf[..n]), i)),
+        Err(FillError::TooLong) => Some(with(o, argument_in(b""), i)),
+        Err(FillError::NotPresent) => None,
+    }
 }
 
-pub fn read() -> Options {
-    let count = os::arg_count();
+pub fn read(rt: &impl Env) -> Options {
     let mut o = none();
-    let mut i = 1;
-    while i < count {
-        o = read_one(o, i);
-        i += 1;
+    for i in 1..usize::MAX {
+        match read_one(rt, o, i) {
+            Some(next) => o = next,
+            None => break,
+        }
     }
     o
 }

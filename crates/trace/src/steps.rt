@@ -1,9 +1,8 @@
 // The instructions of a run, one by one: a line for each, or what was seen at each address.
-use io::write_all;
-use libc::STDOUT_FILENO;
 use marks::{claim_at, index_of};
 use measure::look::measure;
 use memory::byte_at;
+use output::text;
 use registers::word::wrapping_add;
 use registers::{Cycles, Registers};
 use stepper::record::{Advanced, advance_copy};
@@ -34,7 +33,14 @@ fn listing_at(mem: &[u8; 65536], a: u16) -> Listing {
 }
 
 // One instruction, with its line where lines are asked for. `limit` bounds the look ahead.
-fn one(t: Ticket, s: Reached, mem: &mut [u8; 65536], limit: u32, shown: bool) -> Reached {
+fn one(
+    rt: &impl Print,
+    t: Ticket,
+    s: Reached,
+    mem: &mut [u8; 65536],
+    limit: u32,
+    shown: bool,
+) -> Reached {
     let r = s.regs;
     let used = measure(r, *mem, limit);
     let listing = listing_at(mem, r.pc);
@@ -48,14 +54,17 @@ fn one(t: Ticket, s: Reached, mem: &mut [u8; 65536], limit: u32, shown: bool) ->
         Advanced::Done(k) => {
             let spent = std::num::wrapping_add_u32(s.spent, k.0);
             if shown {
-                show(Traced {
-                    address: r.pc,
-                    listing,
-                    after,
-                    cycles: Cycles(spent),
-                    used,
-                    claim: claim_at(t, mark),
-                });
+                show(
+                    rt,
+                    Traced {
+                        address: r.pc,
+                        listing,
+                        after,
+                        cycles: Cycles(spent),
+                        used,
+                        claim: claim_at(t, mark),
+                    },
+                );
             }
             Reached {
                 regs: after,
@@ -67,10 +76,10 @@ fn one(t: Ticket, s: Reached, mem: &mut [u8; 65536], limit: u32, shown: bool) ->
     }
 }
 
-fn show(t: Traced) {
+fn show(rt: &impl Print, t: Traced) {
     let mut line = [0u8; 256];
     let n = put_step(t, &mut line);
-    write_all(STDOUT_FILENO, &line[0..n]);
+    text(rt, &line[0..n]);
 }
 
 fn start(r: Registers) -> Reached {
@@ -83,7 +92,7 @@ fn start(r: Registers) -> Reached {
 }
 
 // From a start until `total` cycles are spent, with a line for each instruction.
-pub fn steps(t: Ticket, r: Registers, mem: [u8; 65536], total: u32, limit: u32) {
+pub fn steps(rt: &impl Print, t: Ticket, r: Registers, mem: [u8; 65536], total: u32, limit: u32) {
     let mut m = mem;
     let mut s = start(r);
     let mut i: u32 = 0;
@@ -91,7 +100,7 @@ pub fn steps(t: Ticket, r: Registers, mem: [u8; 65536], total: u32, limit: u32) 
         if total <= s.spent {
             break;
         }
-        s = one(t, s, &mut m, limit, true);
+        s = one(rt, t, s, &mut m, limit, true);
         i += 1;
     }
 }
@@ -110,7 +119,7 @@ fn noted(visits: [Visits; 4096], mark: usize, go: Cycles, sp: u16) -> [Visits; 4
 }
 
 // The same with a line for each mark at the end.
-pub fn summary(t: Ticket, r: Registers, mem: [u8; 65536], total: u32, limit: u32) {
+pub fn summary(rt: &impl Print, t: Ticket, r: Registers, mem: [u8; 65536], total: u32, limit: u32) {
     let mut m = mem;
     let mut s = start(r);
     let mut visits = [Visits::NONE; 4096];
@@ -119,18 +128,18 @@ pub fn summary(t: Ticket, r: Registers, mem: [u8; 65536], total: u32, limit: u32
         if total <= s.spent {
             break;
         }
-        s = one(t, s, &mut m, limit, false);
+        s = one(rt, t, s, &mut m, limit, false);
         let go = s.go;
         let next = noted(visits, s.mark, go, s.regs.sp);
         visits = next;
         i += 1;
     }
-    addresses(t, &mem, visits);
+    addresses(rt, t, &mem, visits);
 }
 
 // The marks in rising address. The memory is that of the start: no instruction of an accepted routine writes a code
 // byte.
-fn addresses(t: Ticket, mem: &[u8; 65536], visits: [Visits; 4096]) {
+fn addresses(rt: &impl Print, t: Ticket, mem: &[u8; 65536], visits: [Visits; 4096]) {
     let marks = t.marks;
     let count = t.count as usize;
     let mut i = 0;
@@ -141,13 +150,13 @@ fn addresses(t: Ticket, mem: &[u8; 65536], visits: [Visits; 4096]) {
         let m = marks[i];
         let v = visits[i];
         let claim = m.claim;
-        address(m.address, listing_at(mem, m.address), v, claim.cost);
+        address(rt, m.address, listing_at(mem, m.address), v, claim.cost);
         i += 1;
     }
 }
 
-fn address(a: u16, l: Listing, v: Visits, cost: Cycles) {
+fn address(rt: &impl Print, a: u16, l: Listing, v: Visits, cost: Cycles) {
     let mut line = [0u8; 256];
     let n = put_summary(a, l, v, cost, &mut line);
-    write_all(STDOUT_FILENO, &line[0..n]);
+    text(rt, &line[0..n]);
 }

@@ -6,6 +6,7 @@ ghost use Rattle.vectors.specs.Hex.{digit_of, value_in, hex_byte_in, hex_word_in
 use registers::Registers;
 
 // The value of a digit; 16 where the byte is none.
+#[tactic(auto, unfolding(crate::specs::Hex::digit_of))]
 pub fn digit(c: u8) -> u8
     ensures { (result ≡ digit_of c) × (result ≤ 16) }
 {
@@ -31,6 +32,7 @@ fn value_in(s: &[u8], i: usize) -> u8
     digit(s[i]) % 16
 }
 
+#[tactic(auto, unfolding(crate::specs::Hex::hex_byte_in))]
 pub fn hex_byte_in(s: &[u8], i: usize) -> u8
     requires { i + 1 < length s.now }
     ensures { result ≡ hex_byte_in s.now i }
@@ -38,6 +40,7 @@ pub fn hex_byte_in(s: &[u8], i: usize) -> u8
     value_in(s, i) * 16 + value_in(s, i + 1)
 }
 
+#[tactic(auto, unfolding(crate::specs::Hex::hex_word_in))]
 pub fn hex_word_in(s: &[u8], i: usize) -> u16
     requires { i + 3 < length s.now }
     ensures { result ≡ hex_word_in s.now i }
@@ -45,6 +48,7 @@ pub fn hex_word_in(s: &[u8], i: usize) -> u16
     (hex_byte_in(s, i) as u16) * 256 + (hex_byte_in(s, i + 2) as u16)
 }
 
+#[tactic(auto, unfolding(crate::specs::Hex::registers_in))]
 pub fn registers_in(s: &[u8], i: usize) -> Registers
     requires { i + 25 < length s.now }
     ensures { result ≡ registers_in s.now i }

@@ -4,6 +4,7 @@ ghost use Rattle.vectors.specs.Line.{space_due, is_due, AllDue, Shaped};
 
 use crate::hex::{digit, hex_byte_in};
 
+#[tactic(auto, unfolding(crate::specs::Line::space_due))]
 fn space_due(n: usize, i: usize) -> bool
     requires { n ≤ 16 }
     ensures { result ≡ space_due n i }
@@ -17,6 +18,7 @@ fn space_due(n: usize, i: usize) -> bool
     (i - (63 + 7 * n)) % 7 == 2
 }
 
+#[tactic(auto, unfolding(crate::specs::Line::is_due))]
 fn is_due(n: usize, i: usize, c: u8) -> bool
     requires { n ≤ 16 }
     ensures { result ≡ is_due n i c }

@@ -4,6 +4,7 @@
 
 use count::Counts;
 use output::{counted, text};
+use std::fs;
 
 mod hex; // digits, bytes, words and registers in a line
 mod line; // the shape of a line
@@ -15,28 +16,26 @@ mod reader; // the lines of a file
 mod report; // a difference
 mod places; // the opcode maps
 
-fn summary(c: Counts, places: &[u32; 1024]) {
-    counted(b"vectors: ", c.vectors as u64);
-    counted(b"confirmed by GNU's simulator only: ", c.gnu as u64);
-    counted(b"confirmed by MAME's only: ", c.mame as u64);
-    counted(b"confirmed by both: ", c.both as u64);
-    counted(b"confirmed by neither alone: ", c.neither as u64);
-    places::report(places);
-    counted(b"malformed lines: ", c.malformed as u64);
-    counted(b"differences: ", c.differences as u64);
+fn summary(rt: &impl Print, c: Counts, places: &[u32; 1024]) {
+    counted(rt, b"vectors: ", c.vectors as u64);
+    counted(rt, b"confirmed by GNU's simulator only: ", c.gnu as u64);
+    counted(rt, b"confirmed by MAME's only: ", c.mame as u64);
+    counted(rt, b"confirmed by both: ", c.both as u64);
+    counted(rt, b"confirmed by neither alone: ", c.neither as u64);
+    places::report(rt, places);
+    counted(rt, b"malformed lines: ", c.malformed as u64);
+    counted(rt, b"differences: ", c.differences as u64);
 }
 
-fn main() {
-    let fd = os::open_read(b"vectors.txt");
-    if fd < 0 {
-        text(b"vectors.txt: CANNOT BE OPENED\n");
+fn main(rt: HostRuntime) {
+    let Ok(mut file) = fs::open(&rt, "vectors.txt") else {
+        text(&rt, b"vectors.txt: CANNOT BE OPENED\n");
         return;
-    }
+    };
     let mut places = [0u32; 1024];
-    let c = reader::read_all(fd, &mut places);
-    libc::close(fd);
+    let c = reader::read_all(&rt, &mut file, &mut places);
     if (c.vectors == 0) & (c.malformed == 0) {
-        text(b"vectors.txt: EMPTY\n");
+        text(&rt, b"vectors.txt: EMPTY\n");
     }
-    summary(c, &places);
+    summary(&rt, c, &places);
 }

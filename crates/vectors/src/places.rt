@@ -112,23 +112,23 @@ fn waits(first: u8) -> bool {
 }
 
 // WAI, STOP and TEST, and no other instruction.
-fn waiting(n: u32) {
-    text(b"WAI, STOP, TEST: ");
+fn waiting(rt: &impl Print, n: u32) {
+    text(rt, b"WAI, STOP, TEST: ");
     if waits(0x3e) & waits(0xcf) & waits(0x00) & (n == 3) {
-        text(b"refused 23\n");
+        text(rt, b"refused 23\n");
     } else {
-        text(b"NOT REFUSED 23\n");
+        text(rt, b"NOT REFUSED 23\n");
     }
 }
 
-pub fn report(places: &[u32; 1024]) {
+pub fn report(rt: &impl Print, places: &[u32; 1024]) {
     let t = tally_all(places);
-    text(b"places: ");
-    decimal(t.covered as u64);
-    text(b" of ");
-    decimal(wrapping_add_u32(t.done, t.waits) as u64);
-    text(b"\n");
-    counted(b"places with fewer than 100 vectors: ", t.few as u64);
-    waiting(t.waits);
-    counted(b"places refused otherwise: ", t.wrong as u64);
+    text(rt, b"places: ");
+    decimal(rt, t.covered as u64);
+    text(rt, b" of ");
+    decimal(rt, wrapping_add_u32(t.done, t.waits) as u64);
+    text(rt, b"\n");
+    counted(rt, b"places with fewer than 100 vectors: ", t.few as u64);
+    waiting(rt, t.waits);
+    counted(rt, b"places refused otherwise: ", t.wrong as u64);
 }

@@ -8,6 +8,7 @@ use crate::hex::hex_byte_in;
 use crate::loaded::opcode_place_in;
 use crate::report::difference;
 use output::text;
+use std::io;
 use std::num::wrapping_add_u32;
 
 // How many bytes of a line are in the buffer, and what is counted of the lines before it.
@@ -18,7 +19,7 @@ struct State {
 }
 
 // A line is compared and counted; of the first ten that differ it is said how.
-fn line(s: &[u8], c: Counts, places: &mut [u32; 1024]) -> Counts
+fn line(rt: &impl Print, s: &[u8], c: Counts, places: &mut [u32; 1024]) -> Counts
     ensures { Counted s.now c result }
 {
     match compared(s) {
@@ -27,6 +28,7 @@ fn line(s: &[u8], c: Counts, places: &mut [u32; 1024]) -> Counts
             note(places, opcode_place_in(s));
             if c.differences < 10 {
                 difference(
+                    rt,
                     wrapping_add_u32(wrapping_add_u32(c.vectors, c.malformed), 1),
                     s,
                 );
@@ -59,7 +61,7 @@ fn kept(b: u8, st: State, buffer: &mut [u8]) -> State
     st
 }
 
-fn byte(b: u8, st: State, buffer: &mut [u8], places: &mut [u32; 1024]) -> State
+fn byte(rt: &impl Print, b: u8, st: State, buffer: &mut [u8], places: &mut [u32; 1024]) -> State
     requires buffer_len { length buffer.old ≡ 256 }
     requires filled_bound { st.filled ≤ 256 }
     ensures { (result.filled ≤ 256) × Next b (held st buffer.old) (held result buffer.new) }
@@ -68,7 +70,7 @@ fn byte(b: u8, st: State, buffer: &mut [u8], places: &mut [u32; 1024]) -> State
         return kept(b, st, buffer);
     }
     let n = st.filled;
-    let c = line(&buffer[..n], st.counts, places);
+    let c = line(rt, &buffer[..n], st.counts, places);
     State {
         filled: 0,
         counts: c,
@@ -76,7 +78,7 @@ fn byte(b: u8, st: State, buffer: &mut [u8], places: &mut [u32; 1024]) -> State
 }
 
 // A piece of the text.
-fn piece(s: &[u8], st: State, buffer: &mut [u8], places: &mut [u32; 1024]) -> State
+fn piece(rt: &impl Print, s: &[u8], st: State, buffer: &mut [u8], places: &mut [u32; 1024]) -> State
     requires buffer_len { length buffer.old ≡ 256 }
     requires filled_bound { st.filled ≤ 256 }
     ensures { (result.filled ≤ 256) × ReadsLines s.now (held st buffer.old)
@@ -84,7 +86,7 @@ fn piece(s: &[u8], st: State, buffer: &mut [u8], places: &mut [u32; 1024]) -> St
 {
     let mut q = st;
     for i in 0..s.len() {
-        q = byte(s[i], q, buffer, places);
+        q = byte(rt, s[i], q, buffer, places);
     }
     q
 }
@@ -97,21 +99,23 @@ enum Read {
     Failed,
 }
 
-fn read_piece(fd: i32, st: State, buffer: &mut [u8], places: &mut [u32; 1024]) -> Read
+fn read_piece(
+    rt: &impl Print,
+    file: &mut impl io::Read,
+    st: State,
+    buffer: &mut [u8],
+    places: &mut [u32; 1024],
+) -> Read
     requires buffer_len { length buffer.old ≡ 256 }
     requires filled_bound { st.filled ≤ 256 }
     ensures { Within result }
 {
-    let mut space = io::large_buffer();
-    let got = libc::read(fd, &mut space);
-    if got < 0 {
-        return Read::Failed;
+    let mut space = [0u8; 65536];
+    match file.read(&mut space) {
+        Ok(0) => Read::End,
+        Ok(n) => Read::More(piece(rt, &space[..n], st, buffer, places)),
+        Err(_) => Read::Failed,
     }
-    if got == 0 {
-        return Read::End;
-    }
-    let n = io::count(got, &space);
-    Read::More(piece(&space[..n], st, buffer, places))
 }
 
 // A last line that does not end in a line feed is malformed.
@@ -122,13 +126,13 @@ fn ended(st: State) -> Counts {
     counted(st.counts, 0, Comparison::Malformed)
 }
 
-fn failed(st: State) -> Counts {
-    text(b"vectors.txt: CANNOT BE READ TO ITS END\n");
+fn failed(rt: &impl Print, st: State) -> Counts {
+    text(rt, b"vectors.txt: CANNOT BE READ TO ITS END\n");
     ended(st)
 }
 
 // Nothing says that a file ends, so the turns are counted down from a number that no run uses up.
-pub fn read_all(fd: i32, places: &mut [u32; 1024]) -> Counts {
+pub fn read_all(rt: &impl Print, file: &mut impl io::Read, places: &mut [u32; 1024]) -> Counts {
     let mut buffer = [0u8; 256];
     let mut st = State {
         filled: 0,
@@ -136,7 +140,7 @@ pub fn read_all(fd: i32, places: &mut [u32; 1024]) -> Counts {
     };
     let mut turns = u64::MAX;
     while 0 < turns {
-        match read_piece(fd, st, &mut buffer, places) {
+        match read_piece(rt, file, st, &mut buffer, places) {
             Read::More(q) => {
                 st = q;
             }
@@ -144,7 +148,7 @@ pub fn read_all(fd: i32, places: &mut [u32; 1024]) -> Counts {
                 return ended(st);
             }
             Read::Failed => {
-                return failed(st);
+                return failed(rt, st);
             }
         }
         turns -= 1;

@@ -17,33 +17,33 @@ fn without_flags(r: Registers) -> Registers {
 }
 
 // What differs of an answer that is done.
-fn parts(p: Registers, k: Cycles, q: Registers, c: u32) {
+fn parts(rt: &impl Print, p: Registers, k: Cycles, q: Registers, c: u32) {
     if !same_registers(without_flags(p), without_flags(q)) {
-        text(b" registers");
+        text(rt, b" registers");
     }
     if p.flags != q.flags {
-        text(b" flags");
+        text(rt, b" flags");
     }
     if k.0 != c {
-        text(b" cycles");
+        text(rt, b" cycles");
     }
 }
 
-fn outcome(r: Registers, cycles: u32) {
-    registers(r);
-    text(b" cycles ");
-    decimal(cycles as u64);
-    text(b"\n");
+fn outcome(rt: &impl Print, r: Registers, cycles: u32) {
+    registers(rt, r);
+    text(rt, b" cycles ");
+    decimal(rt, cycles as u64);
+    text(rt, b"\n");
 }
 
-fn answered(a: Stepped) {
-    text(b"  answered: ");
+fn answered(rt: &impl Print, a: Stepped) {
+    text(rt, b"  answered: ");
     match a {
-        Stepped::Done(r, k) => outcome(r, k.0),
+        Stepped::Done(r, k) => outcome(rt, r, k.0),
         Stepped::Refused(x) => {
-            text(b"refused ");
-            decimal(x.number as u64);
-            text(b"\n");
+            text(rt, b"refused ");
+            decimal(rt, x.number as u64);
+            text(rt, b"\n");
         }
     }
 }
@@ -60,17 +60,17 @@ fn first_difference(a: &[u8; 65536], b: &[u8; 65536]) -> usize {
     i
 }
 
-fn memory(mem: &[u8; 65536], expected: &[u8; 65536]) {
+fn memory(rt: &impl Print, mem: &[u8; 65536], expected: &[u8; 65536]) {
     let i = first_difference(mem, expected);
     if i < 65536 {
-        word(b"  memory at ", (i % 65536) as u16);
-        byte(b": expected ", expected[i]);
-        byte(b", found ", mem[i]);
-        text(b"\n");
+        word(rt, b"  memory at ", (i % 65536) as u16);
+        byte(rt, b": expected ", expected[i]);
+        byte(rt, b", found ", mem[i]);
+        text(rt, b"\n");
     }
 }
 
-pub fn difference(number: u32, s: &[u8])
+pub fn difference(rt: &impl Print, number: u32, s: &[u8])
     requires { Shaped s.now }
 {
     let mut mem = memory_in(s);
@@ -78,19 +78,19 @@ pub fn difference(number: u32, s: &[u8])
     let q = registers_in(s, 33);
     let cycles = hex_byte_in(s, 3) as u32;
     let a = step(registers_in(s, 6), &mut mem);
-    text(b"line ");
-    decimal(number as u64);
-    word(b", place ", opcode_place_in(s));
-    text(b":");
+    text(rt, b"line ");
+    decimal(rt, number as u64);
+    word(rt, b", place ", opcode_place_in(s));
+    text(rt, b":");
     match a {
-        Stepped::Done(p, k) => parts(p, k, q, cycles),
-        Stepped::Refused(_) => text(b" refused"),
+        Stepped::Done(p, k) => parts(rt, p, k, q, cycles),
+        Stepped::Refused(_) => text(rt, b" refused"),
     }
     if first_difference(&mem, &expected) < 65536 {
-        text(b" memory");
+        text(rt, b" memory");
     }
-    text(b"\n  expected: ");
-    outcome(q, cycles);
-    answered(a);
-    memory(&mem, &expected);
+    text(rt, b"\n  expected: ");
+    outcome(rt, q, cycles);
+    answered(rt, a);
+    memory(rt, &mem, &expected);
 }

@@ -1,6 +1,5 @@
 -- `execute` meets its contract: the operand is where the code looks for it.
 -- Assumes nothing.
-use borrow.Author.Rules.{rules}
 use mathlib.Core.Path.{sym, subst}
 use Prim.Native.Nat.{ℕ}
 use Rattle.opcodes.specs.inner.Numbers.{action_of, mode_of}
@@ -17,20 +16,20 @@ returns-else-n-lt30 c = let a = c.args in
     c.on_stack.ensures (operand_from (mode_of a.k) a.from a.mem.now)
 
 pub returns-then-n-lt97 : goal.returns-then-n-lt97
-returns-then-n-lt97 c = let a = UNKNOWN.c.before.before.before.before.before.before.before.args in
+returns-then-n-lt97 c = let a = c.args in
     let o = operand_from (mode_of a.k) a.from a.mem.now in
     let s =
     sited a.from a.r a.mem.now (action_of a.n) (mode_of a.k)
-    UNKNOWN.c.before.before.before.before.before.before.before.requires.1.1 in
+    c.requires.k_value in
     c.on_operand.ensures a.from o (subst (λ (i : ℕ). Sited (action_of a.n) o a.r a.mem.now i a.from)
-    (sym UNKNOWN.c.before.before.before.address.ensures) s)
+    (sym c.address-at.ensures) s)
 
 pub returns-else-n-lt97 : goal.returns-else-n-lt97
-returns-else-n-lt97 c = let a = UNKNOWN.c.before.before.before.before.before.before.before.before.before.args in
+returns-else-n-lt97 c = let a = c.args in
     let o = operand_from (mode_of a.k) a.from a.mem.now in
     let s =
     sited a.from a.r a.mem.now (action_of a.n) (mode_of a.k)
-    UNKNOWN.c.before.before.before.before.before.before.before.before.before.requires.1.1 in
+    c.requires.k_value in
     c.on_address.ensures o (subst (λ (i : ℕ).
     Sited (action_of a.n) o a.r a.mem.now i a.from)
     (sym c.address-at.ensures) s)

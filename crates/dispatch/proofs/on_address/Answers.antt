@@ -1,6 +1,5 @@
 -- `on_address` meets its contract: what was called ensures the effect of the number, at the address.
 -- Assumes nothing.
-use borrow.Author.Rules.{rules}
 use native.Mathlib.Omega.{arith}
 use Rattle.instructions.specs.inner.Sited.{Sited}
 use Rattle.opcodes.specs.inner.Numbers.{action_of}
@@ -8,195 +7,11 @@ use Rattle.dispatch.proofs.Arms.{does_at, modified, masked, tested}
 use Rattle.opcodes.proofs.Skipped.{skipped}
 use Rattle.dispatch.proofs.on_address.Goals as goal
 
-pub store_byte-requires : goal.store_byte-requires
-unfolding Sited
-store_byte-requires c = search rules
-
-pub store_byte-requires-in-98 : goal.store_byte-requires-in-98
-unfolding Sited
-store_byte-requires-in-98 c = search rules
-
-pub store_word-requires : goal.store_word-requires
-unfolding Sited
-store_word-requires c = search rules
-
-pub store_word-requires-in-100 : goal.store_word-requires-in-100
-unfolding Sited
-store_word-requires-in-100 c = search rules
-
-pub store_word-requires-in-101 : goal.store_word-requires-in-101
-unfolding Sited
-store_word-requires-in-101 c = search rules
-
-pub store_word-requires-in-102 : goal.store_word-requires-in-102
-unfolding Sited
-store_word-requires-in-102 c = search rules
-
-pub modify-requires : goal.modify-requires
-unfolding Sited
-modify-requires c = search rules
-
-pub modify-requires-in-104 : goal.modify-requires-in-104
-unfolding Sited
-modify-requires-in-104 c = search rules
-
-pub modify-requires-in-105 : goal.modify-requires-in-105
-unfolding Sited
-modify-requires-in-105 c = search rules
-
-pub modify-requires-in-106 : goal.modify-requires-in-106
-unfolding Sited
-modify-requires-in-106 c = search rules
-
-pub modify-requires-in-107 : goal.modify-requires-in-107
-unfolding Sited
-modify-requires-in-107 c = search rules
-
-pub modify-requires-in-108 : goal.modify-requires-in-108
-unfolding Sited
-modify-requires-in-108 c = search rules
-
-pub modify-requires-in-109 : goal.modify-requires-in-109
-unfolding Sited
-modify-requires-in-109 c = search rules
-
-pub modify-requires-in-110 : goal.modify-requires-in-110
-unfolding Sited
-modify-requires-in-110 c = search rules
-
-pub modify-requires-in-111 : goal.modify-requires-in-111
-unfolding Sited
-modify-requires-in-111 c = search rules
-
-pub modify-requires-in-112 : goal.modify-requires-in-112
-unfolding Sited
-modify-requires-in-112 c = search rules
-
-pub mask-requires : goal.mask-requires
-unfolding Sited
-mask-requires c = search rules
-
-pub set_bits-requires : goal.set_bits-requires
-unfolding Sited
-set_bits-requires c = search rules
-
-pub mask-requires-in-114 : goal.mask-requires-in-114
-unfolding Sited
-mask-requires-in-114 c = search rules
-
-pub clear_bits-requires : goal.clear_bits-requires
-unfolding Sited
-clear_bits-requires c = search rules
-
-pub byte_at-requires : goal.byte_at-requires
-unfolding Sited
-byte_at-requires c = search rules
-
-pub mask-requires-in-115 : goal.mask-requires-in-115
-unfolding Sited
-mask-requires-in-115 c = search rules
-
-pub bit_target-requires : goal.bit_target-requires
-unfolding Sited
-bit_target-requires c = search rules
-
-pub branch_set-requires : goal.branch_set-requires
-unfolding Sited
-branch_set-requires c = search rules
-
-pub byte_at-requires-in-116 : goal.byte_at-requires-in-116
-unfolding Sited
-byte_at-requires-in-116 c = search rules
-
-pub mask-requires-in-116 : goal.mask-requires-in-116
-unfolding Sited
-mask-requires-in-116 c = search rules
-
-pub bit_target-requires-in-116 : goal.bit_target-requires-in-116
-unfolding Sited
-bit_target-requires-in-116 c = search rules
-
-pub branch_clear-requires : goal.branch_clear-requires
-unfolding Sited
-branch_clear-requires c = search rules
-
-pub branch-at-requires : goal.branch-at-requires
-unfolding Sited
-branch-at-requires c = search rules
-
-pub branch-at-requires-in-118 : goal.branch-at-requires-in-118
-unfolding Sited
-branch-at-requires-in-118 c = search rules
-
-pub branch-at-requires-in-119 : goal.branch-at-requires-in-119
-unfolding Sited
-branch-at-requires-in-119 c = search rules
-
-pub branch-at-requires-in-120 : goal.branch-at-requires-in-120
-unfolding Sited
-branch-at-requires-in-120 c = search rules
-
-pub branch-at-requires-in-121 : goal.branch-at-requires-in-121
-unfolding Sited
-branch-at-requires-in-121 c = search rules
-
-pub branch-at-requires-in-122 : goal.branch-at-requires-in-122
-unfolding Sited
-branch-at-requires-in-122 c = search rules
-
-pub branch-at-requires-in-123 : goal.branch-at-requires-in-123
-unfolding Sited
-branch-at-requires-in-123 c = search rules
-
-pub branch-at-requires-in-124 : goal.branch-at-requires-in-124
-unfolding Sited
-branch-at-requires-in-124 c = search rules
-
-pub branch-at-requires-in-125 : goal.branch-at-requires-in-125
-unfolding Sited
-branch-at-requires-in-125 c = search rules
-
-pub branch-at-requires-in-126 : goal.branch-at-requires-in-126
-unfolding Sited
-branch-at-requires-in-126 c = search rules
-
-pub branch-at-requires-in-127 : goal.branch-at-requires-in-127
-unfolding Sited
-branch-at-requires-in-127 c = search rules
-
-pub branch-at-requires-in-128 : goal.branch-at-requires-in-128
-unfolding Sited
-branch-at-requires-in-128 c = search rules
-
-pub branch-at-requires-in-129 : goal.branch-at-requires-in-129
-unfolding Sited
-branch-at-requires-in-129 c = search rules
-
-pub branch-at-requires-in-130 : goal.branch-at-requires-in-130
-unfolding Sited
-branch-at-requires-in-130 c = search rules
-
-pub branch-at-requires-in-131 : goal.branch-at-requires-in-131
-unfolding Sited
-branch-at-requires-in-131 c = search rules
-
-pub branch-at-requires-in-132 : goal.branch-at-requires-in-132
-unfolding Sited
-branch-at-requires-in-132 c = search rules
-
-pub jump-requires : goal.jump-requires
-unfolding Sited
-jump-requires c = search rules
-
-pub call-requires : goal.call-requires
-unfolding Sited
-call-requires c = search rules
-
 pub returns-in-97 : goal.returns-in-97
 unfolding Sited
 returns-in-97 c = let a = c.args in
     does_at a.at a.r a.mem.now a.from c.in-97.is
-    UNKNOWN.c.before.before.IsStore-byte.ensures
+    c.store_byte.ensures
 
 pub returns-in-98 : goal.returns-in-98
 unfolding Sited
@@ -208,7 +23,7 @@ pub returns-in-99 : goal.returns-in-99
 unfolding Sited
 returns-in-99 c = let a = c.args in
     does_at a.at a.r a.mem.now a.from c.in-99.is
-    UNKNOWN.c.before.before.Store-word.ensures
+    c.store_word.ensures
 
 pub returns-in-100 : goal.returns-in-100
 unfolding Sited
@@ -290,37 +105,37 @@ returns-in-112 c = let a = c.args in
 
 pub returns-in-113 : goal.returns-in-113
 unfolding Sited
-returns-in-113 c = let a = UNKNOWN.c.before.before.before.before.before.before.before.before.args in
+returns-in-113 c = let a = c.args in
     does_at a.at a.r a.mem.now a.from
-    UNKNOWN.c.before.before.before.before.before.before.match.keys17
+    c.in-113.is
     (masked a.at a.r a.mem.now (action_of 113) a.from c.set_bits.ensures
     c.mask.ensures)
 
 pub returns-in-114 : goal.returns-in-114
 unfolding Sited
-returns-in-114 c = let a = UNKNOWN.c.before.before.before.before.before.before.before.before.args in
+returns-in-114 c = let a = c.args in
     does_at a.at a.r a.mem.now a.from
-    UNKNOWN.c.before.before.before.before.before.before.match.keys18
+    c.in-114.is
     (masked a.at a.r a.mem.now (action_of 114) a.from c.clear_bits.ensures
     c.mask-in-114.ensures)
 
 pub returns-in-115 : goal.returns-in-115
 unfolding Sited
-returns-in-115 c = let a = UNKNOWN.c.before.before.before.before.before.before.before.before.before.args in
+returns-in-115 c = let a = c.args in
     does_at a.at a.r a.mem.now a.from
-    UNKNOWN.c.before.before.before.before.before.before.before.match.keys19
+    c.in-115.is
     (tested a.at a.r a.mem.now (action_of 115) a.from c.branch_set.ensures
-    UNKNOWN.c.before.before.before.before.before.byte_at.ensures (omega arith)
-    UNKNOWN.c.before.before.before.mask3.ensures c.bit_target.ensures)
+    c.byte_at.ensures (omega arith)
+    c.mask-in-115.ensures c.bit_target.ensures)
 
 pub returns-in-116 : goal.returns-in-116
 unfolding Sited
-returns-in-116 c = let a = UNKNOWN.c.before.before.before.before.before.before.before.before.before.args in
+returns-in-116 c = let a = c.args in
     does_at a.at a.r a.mem.now a.from
-    UNKNOWN.c.before.before.before.before.before.before.before.match.keys20
+    c.in-116.is
     (tested a.at a.r a.mem.now (action_of 116) a.from c.branch_clear.ensures
-    UNKNOWN.c.before.before.before.before.before.byte-at2.ensures (omega arith)
-    UNKNOWN.c.before.before.before.mask4.ensures c.bit_target-in-116.ensures)
+    c.byte_at-in-116.ensures (omega arith)
+    c.mask-in-116.ensures c.bit_target-in-116.ensures)
 
 pub returns-in-117 : goal.returns-in-117
 unfolding Sited
@@ -415,4 +230,4 @@ returns-in-134 c = let a = c.args in
 
 pub returns-in_default : goal.returns-in_default
 unfolding Sited
-returns-in_default c = absurd (omega (arith, skipped c.args.n 97 38 (omega arith) c.in_default-own.rest))
+returns-in_default c = absurd (omega (arith, skipped c.args.n 97 38 (omega arith) c.in_default.in_default-own.rest))

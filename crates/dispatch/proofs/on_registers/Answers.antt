@@ -1,132 +1,11 @@
 -- `on_registers` meets its contract: what was called ensures the effect of the number.
 -- Assumes nothing.
-use borrow.Author.Rules.{rules}
 use mathlib.Core.Path.{refl}
 use native.Mathlib.Omega.{arith}
 use Rattle.instructions.proofs.Effects.{opened}
 use Rattle.dispatch.proofs.Arms.{leaves}
 use Rattle.opcodes.proofs.Skipped.{skipped}
 use Rattle.dispatch.proofs.on_registers.Goals as goal
-
-pub inherent-requires : goal.inherent-requires
-unfolding opened
-inherent-requires c = search rules
-
-pub inherent-requires-in-1 : goal.inherent-requires-in-1
-unfolding opened
-inherent-requires-in-1 c = search rules
-
-pub inherent-requires-in-2 : goal.inherent-requires-in-2
-unfolding opened
-inherent-requires-in-2 c = search rules
-
-pub inherent-requires-in-3 : goal.inherent-requires-in-3
-unfolding opened
-inherent-requires-in-3 c = search rules
-
-pub inherent-requires-in-4 : goal.inherent-requires-in-4
-unfolding opened
-inherent-requires-in-4 c = search rules
-
-pub inherent-requires-in-5 : goal.inherent-requires-in-5
-unfolding opened
-inherent-requires-in-5 c = search rules
-
-pub inherent-requires-in-6 : goal.inherent-requires-in-6
-unfolding opened
-inherent-requires-in-6 c = search rules
-
-pub inherent-requires-in-7 : goal.inherent-requires-in-7
-unfolding opened
-inherent-requires-in-7 c = search rules
-
-pub inherent-requires-in-8 : goal.inherent-requires-in-8
-unfolding opened
-inherent-requires-in-8 c = search rules
-
-pub inherent-requires-in-9 : goal.inherent-requires-in-9
-unfolding opened
-inherent-requires-in-9 c = search rules
-
-pub inherent-requires-in-10 : goal.inherent-requires-in-10
-unfolding opened
-inherent-requires-in-10 c = search rules
-
-pub inherent-requires-in-11 : goal.inherent-requires-in-11
-unfolding opened
-inherent-requires-in-11 c = search rules
-
-pub inherent-requires-in-12 : goal.inherent-requires-in-12
-unfolding opened
-inherent-requires-in-12 c = search rules
-
-pub inherent-requires-in-13 : goal.inherent-requires-in-13
-unfolding opened
-inherent-requires-in-13 c = search rules
-
-pub inherent-requires-in-14 : goal.inherent-requires-in-14
-unfolding opened
-inherent-requires-in-14 c = search rules
-
-pub inherent-requires-in-15 : goal.inherent-requires-in-15
-unfolding opened
-inherent-requires-in-15 c = search rules
-
-pub inherent-requires-in-16 : goal.inherent-requires-in-16
-unfolding opened
-inherent-requires-in-16 c = search rules
-
-pub inherent-requires-in-17 : goal.inherent-requires-in-17
-unfolding opened
-inherent-requires-in-17 c = search rules
-
-pub inherent-requires-in-18 : goal.inherent-requires-in-18
-unfolding opened
-inherent-requires-in-18 c = search rules
-
-pub inherent-requires-in-19 : goal.inherent-requires-in-19
-unfolding opened
-inherent-requires-in-19 c = search rules
-
-pub inherent-requires-in-20 : goal.inherent-requires-in-20
-unfolding opened
-inherent-requires-in-20 c = search rules
-
-pub inherent-requires-in-21 : goal.inherent-requires-in-21
-unfolding opened
-inherent-requires-in-21 c = search rules
-
-pub inherent-requires-in-22 : goal.inherent-requires-in-22
-unfolding opened
-inherent-requires-in-22 c = search rules
-
-pub inherent-requires-in-23 : goal.inherent-requires-in-23
-unfolding opened
-inherent-requires-in-23 c = search rules
-
-pub inherent-requires-in-24 : goal.inherent-requires-in-24
-unfolding opened
-inherent-requires-in-24 c = search rules
-
-pub inherent-requires-in-25 : goal.inherent-requires-in-25
-unfolding opened
-inherent-requires-in-25 c = search rules
-
-pub inherent-requires-in-26 : goal.inherent-requires-in-26
-unfolding opened
-inherent-requires-in-26 c = search rules
-
-pub inherent-requires-in-27 : goal.inherent-requires-in-27
-unfolding opened
-inherent-requires-in-27 c = search rules
-
-pub inherent-requires-in-28 : goal.inherent-requires-in-28
-unfolding opened
-inherent-requires-in-28 c = search rules
-
-pub inherent-requires-in-29 : goal.inherent-requires-in-29
-unfolding opened
-inherent-requires-in-29 c = search rules
 
 pub returns-in-0 : goal.returns-in-0
 unfolding opened
@@ -250,4 +129,4 @@ returns-in-29 c = leaves c.args.r c.in-29.is (λ m o. (c.inherent-in-29.ensures,
 
 pub returns-in_default : goal.returns-in_default
 unfolding opened
-returns-in_default c = absurd (omega (arith, skipped c.args.n 0 30 (omega arith) c.in_default-own.rest))
+returns-in_default c = absurd (omega (arith, skipped c.args.n 0 30 (omega arith) c.in_default.in_default-own.rest))

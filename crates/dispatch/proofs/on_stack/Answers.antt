@@ -1,160 +1,11 @@
 -- `on_stack` meets its contract: what was called ensures the effect of the number.
 -- Assumes nothing.
-use borrow.Author.Rules.{rules}
 use mathlib.Core.Path.{refl}
 use native.Mathlib.Omega.{arith}
 use Rattle.instructions.proofs.Effects.{opened}
 use Rattle.dispatch.proofs.Arms.{does}
 use Rattle.opcodes.proofs.Skipped.{skipped}
 use Rattle.dispatch.proofs.on_stack.Goals as goal
-
-pub unary_on-requires : goal.unary_on-requires
-unfolding opened
-unary_on-requires c = search rules
-
-pub unary_on-requires-in-31 : goal.unary_on-requires-in-31
-unfolding opened
-unary_on-requires-in-31 c = search rules
-
-pub unary_on-requires-in-32 : goal.unary_on-requires-in-32
-unfolding opened
-unary_on-requires-in-32 c = search rules
-
-pub unary_on-requires-in-33 : goal.unary_on-requires-in-33
-unfolding opened
-unary_on-requires-in-33 c = search rules
-
-pub unary_on-requires-in-34 : goal.unary_on-requires-in-34
-unfolding opened
-unary_on-requires-in-34 c = search rules
-
-pub unary_on-requires-in-35 : goal.unary_on-requires-in-35
-unfolding opened
-unary_on-requires-in-35 c = search rules
-
-pub unary_on-requires-in-36 : goal.unary_on-requires-in-36
-unfolding opened
-unary_on-requires-in-36 c = search rules
-
-pub unary_on-requires-in-37 : goal.unary_on-requires-in-37
-unfolding opened
-unary_on-requires-in-37 c = search rules
-
-pub unary_on-requires-in-38 : goal.unary_on-requires-in-38
-unfolding opened
-unary_on-requires-in-38 c = search rules
-
-pub unary_on-requires-in-39 : goal.unary_on-requires-in-39
-unfolding opened
-unary_on-requires-in-39 c = search rules
-
-pub unary_on-requires-in-40 : goal.unary_on-requires-in-40
-unfolding opened
-unary_on-requires-in-40 c = search rules
-
-pub unary_on-requires-in-41 : goal.unary_on-requires-in-41
-unfolding opened
-unary_on-requires-in-41 c = search rules
-
-pub unary_on-requires-in-42 : goal.unary_on-requires-in-42
-unfolding opened
-unary_on-requires-in-42 c = search rules
-
-pub unary_on-requires-in-43 : goal.unary_on-requires-in-43
-unfolding opened
-unary_on-requires-in-43 c = search rules
-
-pub unary_on-requires-in-44 : goal.unary_on-requires-in-44
-unfolding opened
-unary_on-requires-in-44 c = search rules
-
-pub unary_on-requires-in-45 : goal.unary_on-requires-in-45
-unfolding opened
-unary_on-requires-in-45 c = search rules
-
-pub unary_on-requires-in-46 : goal.unary_on-requires-in-46
-unfolding opened
-unary_on-requires-in-46 c = search rules
-
-pub unary_on-requires-in-47 : goal.unary_on-requires-in-47
-unfolding opened
-unary_on-requires-in-47 c = search rules
-
-pub unary_on-requires-in-48 : goal.unary_on-requires-in-48
-unfolding opened
-unary_on-requires-in-48 c = search rules
-
-pub unary_on-requires-in-49 : goal.unary_on-requires-in-49
-unfolding opened
-unary_on-requires-in-49 c = search rules
-
-pub test_accumulator-requires : goal.test_accumulator-requires
-unfolding opened
-test_accumulator-requires c = search rules
-
-pub test_accumulator-requires-in-51 : goal.test_accumulator-requires-in-51
-unfolding opened
-test_accumulator-requires-in-51 c = search rules
-
-pub return_from-requires : goal.return_from-requires
-unfolding opened
-return_from-requires c = search rules
-
-pub push_byte-requires : goal.push_byte-requires
-unfolding opened
-push_byte-requires c = search rules
-
-pub push_byte-requires-in-54 : goal.push_byte-requires-in-54
-unfolding opened
-push_byte-requires-in-54 c = search rules
-
-pub push_word-requires : goal.push_word-requires
-unfolding opened
-push_word-requires c = search rules
-
-pub push_word-requires-in-56 : goal.push_word-requires-in-56
-unfolding opened
-push_word-requires-in-56 c = search rules
-
-pub pull_byte-requires : goal.pull_byte-requires
-unfolding opened
-pull_byte-requires c = search rules
-
-pub pull_byte-requires-in-58 : goal.pull_byte-requires-in-58
-unfolding opened
-pull_byte-requires-in-58 c = search rules
-
-pub pull_word-requires : goal.pull_word-requires
-unfolding opened
-pull_word-requires c = search rules
-
-pub pull_word-requires-in-60 : goal.pull_word-requires-in-60
-unfolding opened
-pull_word-requires-in-60 c = search rules
-
-pub reserve-requires : goal.reserve-requires
-unfolding opened
-reserve-requires c = search rules
-
-pub release-requires : goal.release-requires
-unfolding opened
-release-requires c = search rules
-
-pub set_stack-requires : goal.set_stack-requires
-unfolding opened
-set_stack-requires c = search rules
-
-pub set_stack-requires-in-64 : goal.set_stack-requires-in-64
-unfolding opened
-set_stack-requires-in-64 c = search rules
-
-pub interrupt-requires : goal.interrupt-requires
-unfolding opened
-interrupt-requires c = search rules
-
-pub resume-requires : goal.resume-requires
-unfolding opened
-resume-requires c = search rules
 
 pub returns-in-30 : goal.returns-in-30
 unfolding opened
@@ -268,8 +119,8 @@ returns-in-51 c = let a = c.args in does a.r a.mem.now c.in-51.is
 
 pub returns-in-52 : goal.returns-in-52
 unfolding opened
-returns-in-52 c = let a = UNKNOWN.c.before.before.before.before.args in does a.r a.mem.now
-    UNKNOWN.c.before.before.match.keys23 c.return_from.ensures
+returns-in-52 c = let a = c.args in does a.r a.mem.now
+    c.in-52.is c.return_from.ensures
 
 pub returns-in-53 : goal.returns-in-53
 unfolding opened
@@ -297,23 +148,23 @@ returns-in-56 c = let a = c.args in
 
 pub returns-in-57 : goal.returns-in-57
 unfolding opened
-returns-in-57 c = let a = UNKNOWN.c.before.before.before.before.args in does a.r a.mem.now
-    UNKNOWN.c.before.before.match.keys28 c.pull_byte.ensures
+returns-in-57 c = let a = c.args in does a.r a.mem.now
+    c.in-57.is c.pull_byte.ensures
 
 pub returns-in-58 : goal.returns-in-58
 unfolding opened
-returns-in-58 c = let a = UNKNOWN.c.before.before.before.before.args in does a.r a.mem.now
-    UNKNOWN.c.before.before.match.keys29 c.pull_byte-in-58.ensures
+returns-in-58 c = let a = c.args in does a.r a.mem.now
+    c.in-58.is c.pull_byte-in-58.ensures
 
 pub returns-in-59 : goal.returns-in-59
 unfolding opened
-returns-in-59 c = let a = UNKNOWN.c.before.before.before.before.args in does a.r a.mem.now
-    UNKNOWN.c.before.before.match.keys30 c.pull_word.ensures
+returns-in-59 c = let a = c.args in does a.r a.mem.now
+    c.in-59.is c.pull_word.ensures
 
 pub returns-in-60 : goal.returns-in-60
 unfolding opened
-returns-in-60 c = let a = UNKNOWN.c.before.before.before.before.args in does a.r a.mem.now
-    UNKNOWN.c.before.before.match.keys31 c.pull_word-in-60.ensures
+returns-in-60 c = let a = c.args in does a.r a.mem.now
+    c.in-60.is c.pull_word-in-60.ensures
 
 pub returns-in-61 : goal.returns-in-61
 unfolding opened
@@ -343,9 +194,9 @@ returns-in-65 c = let a = c.args in
 
 pub returns-in-66 : goal.returns-in-66
 unfolding opened
-returns-in-66 c = let a = UNKNOWN.c.before.before.before.before.args in does a.r a.mem.now
-    UNKNOWN.c.before.before.match.keys37 (λ o. (c.resume.ensures, refl))
+returns-in-66 c = let a = c.args in does a.r a.mem.now
+    c.in-66.is (λ o. (c.resume.ensures, refl))
 
 pub returns-in_default : goal.returns-in_default
 unfolding opened
-returns-in_default c = absurd (omega (arith, skipped c.args.n 30 37 (omega arith) c.in_default-own.rest))
+returns-in_default c = absurd (omega (arith, skipped c.args.n 30 37 (omega arith) c.in_default.in_default-own.rest))

@@ -16,7 +16,6 @@ use Rattle.opcodes.specs.declared.instruction.Action.TheVariants.{Jmp, Call, Rts
 use Rattle.opcodes.specs.declared.instruction.Action.TheVariants.{PullWord, Des, Ins, SetStack, Swi, Rti, Wai, Stop}
 use Rattle.opcodes.specs.declared.instruction.Action.TheVariants.{Test}
 use Rattle.opcodes.specs.declared.instruction.Mode.{Mode}
-use Rattle.opcodes.specs.declared.instruction.Mode.TheVariants as Mode
 use Rattle.opcodes.specs.declared.instruction.Operand.{Operand}
 use Rattle.instructions.specs.Operand.{operand_address, byte_operand, word_operand, mask_of}
 use Rattle.instructions.specs.Effect.{Effect, effect_of}

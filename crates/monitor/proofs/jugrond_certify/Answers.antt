@@ -8,5 +8,5 @@ use Rattle.monitor.proofs.jugrond_certify.Goals as goal
 pub returns : goal.returns
 returns c = (
   rw (c.answer.ensures.0, c.answer.ensures.1) (c.certify_into.ensures _),
-  filled_slot_comes_home _ _ _ _ (all_bytes _ (λ i. (c.shared_slice_known-1.given i).fits)),
+  filled_slot_comes_home _ _ _ _ (all_bytes _ (λ i. (c.type_inv.ticket i).fits)),
 )

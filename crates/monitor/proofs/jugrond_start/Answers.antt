@@ -9,5 +9,5 @@ use Rattle.monitor.proofs.jugrond_start.Goals as goal
 pub returns : goal.returns
 returns c = (
   c.answer_start.ensures _ _ ∙ c.start_on.ensures _ _,
-  started_bytes_come_home _ _ _ _ _ _ (all_bytes _ (λ i. (c.shared_slice_known-1.given i).fits)),
+  started_bytes_come_home _ _ _ _ _ _ (all_bytes _ (λ i. (c.type_inv.ticket i).fits)),
 )

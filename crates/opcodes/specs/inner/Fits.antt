@@ -10,7 +10,6 @@ use Rattle.opcodes.specs.declared.instruction.Action.TheVariants.{Brset, Brclr, 
 use Rattle.opcodes.specs.declared.instruction.Action.TheVariants.{PushWord, PullByte, PullWord, Des, Ins}
 use Rattle.opcodes.specs.declared.instruction.Action.TheVariants.{SetStack, Swi, Rti, Wai, Stop, Test}
 use Rattle.opcodes.specs.declared.instruction.Mode.{Mode}
-use Rattle.opcodes.specs.declared.instruction.Mode.TheVariants as Mode
 
 -- an answer for each kind of mode: without an operand, an immediate byte, an immediate word, a place in memory, an
 -- offset, a mask, a mask and an offset

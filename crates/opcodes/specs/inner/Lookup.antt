@@ -3,7 +3,6 @@
 -- Assumes nothing.
 use Rattle.std.specs.Prelude.{ℕ, cond, eqb}
 use Rattle.opcodes.specs.declared.lookup.Found.{Found}
-use Rattle.opcodes.specs.declared.lookup.Found.TheVariants as Found
 use Rattle.opcodes.specs.Tables.{cost_at}
 use Rattle.opcodes.specs.Decode.{opcode_place, opcode_size}
 

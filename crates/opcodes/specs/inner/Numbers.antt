@@ -16,7 +16,6 @@ use Rattle.opcodes.specs.declared.instruction.Accumulator.TheVariants as Acc
 use Rattle.opcodes.specs.declared.instruction.Index.TheVariants as Ix
 use Rattle.opcodes.specs.declared.instruction.Word.TheVariants as Wd
 use Rattle.opcodes.specs.declared.instruction.Mode.{Mode}
-use Rattle.opcodes.specs.declared.instruction.Mode.TheVariants as Mode
 
 -- the code goes by groups of these numbers: 0 .. 29 are for the registers alone, 30 .. 66 for an accumulator or the
 -- stack; 67 .. 96 read an operand; 97 .. 134 store, branch or jump; 135 and 136 wait

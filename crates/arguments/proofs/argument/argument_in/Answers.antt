@@ -1,37 +1,11 @@
 -- `argument_in` meets its contract: the first name that the text begins with decides, and the number stands after it.
 -- Assumes nothing.
-use borrow.Author.Rules.{rules}
 use mathlib.Core.Path.{sym, ◌∙◌}
 use native.Mathlib.Omega.{arith}
 use Rattle.arguments.specs.Argument.{argument_of}
 use Rattle.arguments.proofs.Begins.{rest}
 use Rattle.arguments.proofs.argument.argument_in.Goals as goal
 
--- UNPLACED
-part-number-start : tie.Need-slice-bounds-number-start
-part-number-start c = omega (arith, c.before.starts_with.ensures.1 c.if1.true)
-
--- UNPLACED
-part-number-start-2 : tie.Need-slice-bounds-number-start-2
-part-number-start-2 c = omega (arith, c.before.starts-with2.ensures.1 c.if2.true)
-
--- UNPLACED
-part-number-start-3 : tie.Need-slice-bounds-number-start-3
-part-number-start-3 c = omega (arith, c.before.starts-with3.ensures.1 c.if3.true)
-
--- UNPLACED
-part-number-start-4 : tie.Need-slice-bounds-number-start-4
-part-number-start-4 c = omega (arith, c.before.starts-with4.ensures.1 c.if4.true)
-
--- UNPLACED
-part-number-start-5 : tie.Need-slice-bounds-number-start-5
-part-number-start-5 c = omega (arith, c.before.starts-with5.ensures.1 c.if5.true)
-
--- UNPLACED
-part-number-start-6 : tie.Need-slice-bounds-number-start-6
-part-number-start-6 c = omega (arith, c.before.starts-with6.ensures.1 c.if6.true)
-
--- sₖ is after the k-th name was looked for
 pub slice_bounds-number-count : goal.slice_bounds-number-count
 slice_bounds-number-count c = omega (arith, c.starts_with.ensures.1 c.if-starts_with.true)
 

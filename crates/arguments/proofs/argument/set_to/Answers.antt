@@ -1,6 +1,5 @@
 -- `set_to` meets its contract.
 -- Assumes nothing.
-use borrow.Author.Rules.{rules}
 use Rattle.arguments.proofs.argument.set_to.Goals as goal
 
 pub returns-in-Number : goal.returns-in-Number

@@ -1,14 +1,9 @@
 -- `starts_with` meets its contract: what is left of both texts decides, once the bytes passed are the same.
 -- Assumes nothing.
-use borrow.Author.Rules.{rules}
-use native.Mathlib.Omega.{arith}
-use mathlib.Core.Path.{◌≡◌, refl, sym, ◌∙◌}
-use mathlib.Core.Bool.{false≢true}
+use mathlib.Core.Path.{◌≡◌}
 use Prim.Native.Nat.{◌-◌, ◌≤◌}
-use borrow.Author.Tests.{eq-eqb, ne_eqb}
 use lib.ListN.{length, drop}
 use Rattle.arguments.specs.Argument.{starts_with}
-use Rattle.arguments.proofs.Begins.{too_short, next_byte, no_byte}
 use Rattle.arguments.proofs.argument.starts_with.Given as goal
 
 abbrev pub invariant-loop-i : goal.invariant-loop-i

@@ -1,17 +1,10 @@
 -- `number` meets its contract: what is left of the text, after the digits passed, spells what the whole does.
 -- Assumes nothing.
-use borrow.Author.Rules.{rules}
 use native.Mathlib.Omega.{arith}
-use mathlib.Core.Path.{◌≡◌, sym, ◌∙◌}
-use mathlib.Core.Bool.{cond}
-use mathlib.Core.List.{List}
-use Prim.Native.Nat.{ℕ, ◌*◌, ◌+◌, ◌-◌, ◌≤◌, ◌<◌}
+use mathlib.Core.Path.{sym, ◌∙◌}
+use Prim.Native.Nat.{ℕ, ◌*◌, ◌≤◌, ◌<◌}
 use native.Mathlib.Nat.{mul-le-mul}
 use borrow.Author.Tests.{lt-ltb, le-ltb, le-leb, lt-leb}
-use lib.Dec.{ltb, leb}
-use lib.ListN.{length, drop}
-use Rattle.arguments.specs.declared.number.Parsed.TheVariants.{Malformed}
-use Rattle.arguments.specs.Number.{spelled_from, number_of}
 use Rattle.arguments.proofs.Spelled.{some_digits, no_digits, next_digit, last_digit}
 use Rattle.arguments.proofs.number.number.Goals as goal
 
@@ -26,27 +19,25 @@ pub loop-i-init : goal.loop-i-init
 loop-i-init c = (omega arith, omega arith, sym (some_digits _ _ _ c.if-s-eq0.false))
 
 pub overflow_mul-w : goal.overflow_mul-w
-overflow_mul-w c = record { fits = omega (arith, most c {-After_digit-}) }
+overflow_mul-w c = record { fits = omega (arith, wide c.loop-i.invariant.1 c.requires) }
 
 pub overflow_add-w : goal.overflow_add-w
-overflow_add-w c = record { fits = omega (arith, most c, {-After_digit-} c.digit-d.ensures.1) }
+overflow_add-w c = record { fits = omega (arith, wide c.loop-i.invariant.1 c.requires) }
 
 pub returns-then-base-d : goal.returns-then-base-d
-returns-then-base-d c = rw (le-ltb _ _ c.if-base-d.true) at (next c {-After_digit-})
+returns-then-base-d c =
+    let next = sym (next_digit _ _ c.args.s.now c.loop-i.i c.loop-i.v c.digit-d.result c.loop-i-test.true c.digit-d.ensures.0) ∙ c.loop-i.invariant.2 in
+    rw (le-ltb _ _ c.if-base-d.true) at next
 
 pub returns-then-most-w : goal.returns-then-most-w
-returns-then-most-w c = rw (lt-ltb _ _ c.if-base-d.false, lt-leb _ _ c.if-most-w.true) at (next c {-After_digit-})
-
-pub overflow_cast-v : goal.overflow_cast-v
-overflow_cast-v c = record { fits = omega (arith, c.if-most-w.false) }
+returns-then-most-w c =
+    let next = sym (next_digit _ _ c.args.s.now c.loop-i.i c.loop-i.v c.digit-d.result c.loop-i-test.true c.digit-d.ensures.0) ∙ c.loop-i.invariant.2 in
+    rw (lt-ltb _ _ c.if-base-d.false, lt-leb _ _ c.if-most-w.true) at next
 
 pub loop-i-preserved : goal.loop-i-preserved
-loop-i-preserved c = (
-  omega arith,
-  omega (arith, c.if-most-w.false),
-  rw (lt-ltb _ _ c.if-base-d.false, le-leb _ _ c.if-most-w.false)
-      at (next c {-After_digit-}),
-)
+loop-i-preserved c =
+    let next = sym (next_digit _ _ c.args.s.now c.loop-i.i c.loop-i.v c.digit-d.result c.loop-i-test.true c.digit-d.ensures.0) ∙ c.loop-i.invariant.2 in
+    (omega arith, omega arith, rw (lt-ltb _ _ c.if-base-d.false, le-leb _ _ c.if-most-w.false) at next)
 
 pub returns : goal.returns
 returns c = let l = c.loop-i in sym (last_digit _ _ _ l.i l.v c.loop-i-test.false) ∙ l.invariant.2

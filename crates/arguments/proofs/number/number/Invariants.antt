@@ -1,18 +1,9 @@
 -- `number` meets its contract: what is left of the text, after the digits passed, spells what the whole does.
 -- Assumes nothing.
-use borrow.Author.Rules.{rules}
-use native.Mathlib.Omega.{arith}
-use mathlib.Core.Path.{◌≡◌, sym, ◌∙◌}
-use mathlib.Core.Bool.{cond}
-use mathlib.Core.List.{List}
-use Prim.Native.Nat.{ℕ, ◌*◌, ◌+◌, ◌-◌, ◌≤◌, ◌<◌}
-use native.Mathlib.Nat.{mul-le-mul}
-use borrow.Author.Tests.{lt-ltb, le-ltb, le-leb, lt-leb}
-use lib.Dec.{ltb, leb}
+use mathlib.Core.Path.{◌≡◌}
+use Prim.Native.Nat.{◌-◌, ◌≤◌, ◌<◌}
 use lib.ListN.{length, drop}
-use Rattle.arguments.specs.declared.number.Parsed.TheVariants.{Malformed}
 use Rattle.arguments.specs.Number.{spelled_from, number_of}
-use Rattle.arguments.proofs.Spelled.{some_digits, no_digits, next_digit, last_digit}
 use Rattle.arguments.proofs.number.number.Given as goal
 
 abbrev pub invariant-loop-i : goal.invariant-loop-i

@@ -1,38 +1,51 @@
 -- `checks::image::shape_at` meets its contract: the bytes that it reads are those of the image from the address on.
 -- Assumes nothing.
-use borrow.Author.Rules.{rules}
-use mathlib.Core.Path.{◌≡◌, sym, ◌∙◌}
+use Rattle.std.proofs.Common.{sym, ◌≡◌, ◌-◌, ◌+◌, ℕ, List, get_or}
 use native.Mathlib.Nat.{add-zero, add_assoc}
-use Rattle.opcodes.specs.Decode.{Bytes}
+use Rattle.commands.specs.declared.header.Window.{Window}
 use Rattle.opcodes.specs.inner.Lookup.{found_of}
+use Rattle.opcodes.specs.declared.lookup.Found.{Found}
 use Rattle.rules.specs.Marks.{image_from}
 use Rattle.opcodes.proofs.Says.{in_tables, entry}
 use Rattle.checks.proofs.ShapeFound.{nowhere_shape, nowhere_size, there_shape, there_size}
 use Rattle.checks.proofs.image.shape_at.Goals as goal
 
--- back to the call
-abbrev called : tie.After-found-of → tie.Start
-called c = c.before.before.before.before.before
-
-abbrev bytes : tie.After-found-of → Bytes
-bytes c = let z = (called c).args in image_from z.code z.image.now z.a
-
-found : (c : tie.After-found-of) → found_of (bytes c 0) (bytes c 1) ≡ c.found_of.result
-found c =
-    simp (add-zero, ← c.before.before.byte-in.ensures, ← c.before.byte-in2.ensures, ← c.found_of.ensures)
+-- what is found at the image's bytes at `at` and after it, where `at` is the address's
+found : (code : Window) (image : List ℕ) (a b d : ℕ) (r : Found) → b ≡ get_or image (a - code.start) 0 →
+    d ≡ get_or image (a - code.start + 1) 0
+    → r ≡ found_of b d
+    → (s : Found) → r ≡ s → found_of (image_from code image a 0) (image_from code image a 1) ≡ s
+found code image a b d r at_b at_d at_r s is = simp (add-zero, ← at_b, ← at_d, ← at_r, is)
 
 pub shape_found-requires : goal.shape_found-requires
-shape_found-requires c = let h = found c {-After_found_of-} ∙ c.in-At.is in (in_tables _ _ h, (entry _ _ h, (called c {-After_found_of-}).requires.1.1))
+shape_found-requires c =
+    let h =
+    found c.args.code c.args.image.now c.args.a _ _ _ c.byte_in.ensures c.byte_in-2.ensures c.found_of.ensures _
+    c.in-At.is in
+    record {
+      place_bound = in_tables _ _ h;
+      e_value = entry _ _ h;
+      ta_value = c.requires.ta_value;
+      tm_value = c.requires.tm_value;
+    }
 
 pub returns-in-Nothing : goal.returns-in-Nothing
-returns-in-Nothing c = let h = found c {-After_found_of-} ∙ c.in-Nothing.is in
-    (sym (nowhere_shape (bytes c {-After_found_of-}) h (called c {-After_found_of-}).args.a), sym (nowhere_size (bytes c {-After_found_of-}) h))
+returns-in-Nothing c =
+    let h =
+    found c.args.code c.args.image.now c.args.a _ _ _ c.byte_in.ensures c.byte_in-2.ensures c.found_of.ensures _
+    c.in-Nothing.is in
+    let bytes = image_from c.args.code c.args.image.now c.args.a in
+    (sym (nowhere_shape bytes h c.args.a), sym (nowhere_size bytes h))
 
 pub returns-in-At : goal.returns-in-At
-returns-in-At c = let h = found c {-After_found_of-} ∙ c.in-At.is in
+returns-in-At c =
+    let h =
+    found c.args.code c.args.image.now c.args.a _ _ _ c.byte_in.ensures c.byte_in-2.ensures c.found_of.ensures _
+    c.in-At.is in
+    let bytes = image_from c.args.code c.args.image.now c.args.a in
     simp (
-      there_shape (bytes c {-After_found_of-}) h,
-      there_size (bytes c {-After_found_of-}) h,
+      there_shape bytes h,
+      there_size bytes h,
       ← add_assoc,
       ← c.byte_in-u.ensures,
       ← c.byte_in-v.ensures,

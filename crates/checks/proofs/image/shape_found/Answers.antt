@@ -22,7 +22,7 @@ returns-in-Instruction c = simp (
     (refl, refl)
 
 pub returns-in-Nothing : goal.returns-in-Nothing
-returns-in-Nothing c = simp (← c.decode.ensures, c.in-Nothing.is, UNKNOWN.d.before.before.pre.1.0) (
+returns-in-Nothing c = simp (← c.decode.ensures, c.in-Nothing.is, c.requires.e_value) (
   refl,
   refl,
 )

@@ -1,160 +1,96 @@
--- `verdict_on` meets its contract. The loop's invariant: the verdict is the one where the image's length and the first
--- i marks have passed. The measure is how many marks are left.
+-- `verdict_on` meets its contract: each turn's cause decides between a refusal and the next turn.
 -- Assumes nothing.
-use borrow.Author.Rules.{rules}
-use borrow.Author.Tests.{ltb-true, eq-eqb, ne_eqb}
-use Prim.Native.Nat.{ℕ, suc, ◌-◌, ◌≤◌, ◌<◌}
-use native.Mathlib.Numerals.{add-one}
+use Rattle.std.proofs.Common.{rules, arith, ◌≡◌, sym, ◌∙◌, ℕ, suc, ◌-◌, ◌≤◌, ◌<◌, add-one, List, length, get_or, take, leb, ltb, cond, ◌+◌}
+use borrow.Author.Tests.{eq-eqb, ne_eqb}
 use native.Mathlib.Nat.{sub-zero}
-use native.Mathlib.Omega.{arith}
-use mathlib.Core.Path.{◌≡◌, refl, sym, ◌∙◌}
-use mathlib.Core.Bool.{Bool, true, false, cond}
-use lib.Dec.{ltb}
-use lib.ListN.{length, get_or, take, length-map}
+use Rattle.commands.specs.Header.{past_of}
+use Rattle.ticket.specs.declared.fields.Mark.{Mark}
+use Rattle.ticket.specs.declared.fields.Ticket.{Ticket}
 use Rattle.ticket.specs.Fields.{blank_mark, fields_of}
-use Rattle.rules.specs.Checks.{verdict_on}
-use Rattle.checks.specs.inner.Find.{Ascending}
-use Rattle.checks.specs.inner.AtMark.{addresses_of}
+use Rattle.rules.specs.Marks.{image_from}
+use Rattle.rules.specs.Shape.{shape_of, instruction_size}
+use Rattle.checks.specs.declared.at_mark.AtMark.{AtMark}
+use Rattle.checks.specs.inner.Said.{shape_said}
+use Rattle.checks.specs.inner.Find.{index_of}
+use Rattle.checks.specs.inner.MarkCause.{mark_cause_of}
+use Rattle.checks.specs.inner.AtMark.{addresses_of, marked_if, first_next, second_next}
 use Rattle.checks.proofs.ClaimFound.{ascending}
 use Rattle.checks.proofs.MarkCause.{cause_then}
 use Rattle.checks.proofs.VerdictByMarks.{rest_of, verdict_short, verdict_start, verdict_mark, verdict_end}
 use Rattle.checks.proofs.Held.{held_count, held_mark, held_above, held_claim}
 use Rattle.checks.proofs.verdict.verdict_on.Goals as goal
 
-abbrev invariant-loop : tie.invariant-loop
-invariant-loop image header code «data» marks count addresses tc ta tm i₀ i =
-    let f =
-    fields_of (record { header = header; count = count; marks = marks }) in
-    (i ≤ count) × (verdict_on f image ≡ rest_of f image i)
+-- what the code knows of the mark m once it looked at its instruction, by the addresses l
+abbrev Seen : Ticket → List ℕ → List ℕ → Mark → AtMark → Type 0
+Seen t image l m s =
+    (shape_said s.shape ≡ shape_of (image_from t.header.code image m.address) m.address)
+    × (s.inside ≡ leb (m.address + instruction_size (image_from t.header.code image m.address)) (past_of t.header.code))
+    × (s.first ≡ index_of l (first_next s.shape))
+    × (s.second ≡ index_of l (second_next s.shape))
 
-abbrev decreases-loop : tie.decreases-loop
-decreases-loop image header code «data» marks count addresses tc ta tm i₀ i = count - i
+module _ (t : Ticket) (few : t.count ≤ 4096) (full : length t.marks ≡ 4096) where
+  abbrev mark : ℕ → Mark
+  mark i = get_or t.marks i blank_mark
 
--- from a point of the loop back to the call, and from a point of the turn to its begin
-abbrev called : tie.At-loop invariant-loop decreases-loop → tie.Start invariant-loop decreases-loop
-called c = c.before.before.before.before.before.before.before.before.before.before.before.before.before
-
-abbrev turn : tie.After-instruction-at invariant-loop decreases-loop → tie.At-loop invariant-loop decreases-loop
-turn c = c.before.before.before.before.before.before.before.before
-
-abbrev looked : tie.After-cause-at invariant-loop decreases-loop → tie.After-instruction-at invariant-loop decreases-loop
-looked c = c.before.before.before.before.before
-
--- the array's length is a part of its type
-full : (c : tie.Start invariant-loop decreases-loop) → length c.args.t.marks ≡ 4096
-full c = sym (length-map c.args.t.marks _) ∙ c.well-formed.0.1.1.1.1.0.1.0.1
-
--- an index that `slot` gives is one of the array
-below : (i n : ℕ) (there : Bool) → ltb i n ≡ there → n ≤ 4096 → cond there i 0 < 4096
-below i n true e few = omega (arith, ltb-true i n e)
-below i n false e few = omega arith
-
--- what the code lends of the addresses: those of the marks
-lent : (c : tie.At-loop invariant-loop decreases-loop)
-    → let t =
-    (called c).args.t in take (t.count - 0) c.before.before.before.before.addresses-of.result
-    ≡ addresses_of (fields_of t).marks
-lent c = rw sub-zero c.before.before.before.before.addresses-of.ensures
-
-rising : (c : tie.At-loop invariant-loop decreases-loop) → Ascending (take ((called c).args.t.count - 0)
-    c.before.before.before.before.addresses-of.result)
-rising c = rw (lent c) (ascending _ (called c).requires.0.rising)
-
--- a turn's cause decides between a refusal and the next turn
-turned : (c : tie.After-cause-at invariant-loop decreases-loop)
-    → let l = turn (looked c) in
-    let f = fields_of (called l).args.t in
-    let rest = rest_of f (called l).args.image.now in
-    rest l.loop.i ≡ cause_then c.cause-at.result (get_or (called l).args.t.marks l.loop.i
-    blank_mark).address (rest (suc l.loop.i))
-unfolding fields_of
-turned c =
-    let v = looked c in
-    let l = turn v in
-    let s = called l in
-    let t = s.args.t in
-    let few = s.pre.1 in
-    let below-count = v.before.before.before.before.before.before.before.loop-test.taken in
-    let seen = v.instruction-at.ensures in
-    let first =
-    held_claim t few (full s) _ (lent l) _ _ _ seen.2 c.before.before.before.before.slot.ensures in
-    let second = held_claim t few (full s) _ (lent l) _ _ _ seen.3 c.before.before.before.slot2.ensures in
-    verdict_mark (fields_of t) s.args.image.now l.loop.i (rw (held_count t few (full s)) below-count) _
-    (held_mark t few (full s) l.loop.i below-count)
-    _ _ seen.0 seen.1 _ _ first second _ c.cause-at.ensures
+  -- a turn's cause decides between a refusal and the next turn
+  turned : (image l : List ℕ) → l ≡ addresses_of (fields_of t).marks → (i : ℕ) → i < t.count → (s : AtMark) →
+      Seen t image l (mark i) s
+      → (j k : ℕ) → j ≡ cond (ltb s.first t.count) s.first 0 → k ≡ cond (ltb s.second t.count) s.second 0 → (n : ℕ)
+      → n ≡ mark_cause_of t.header.«data» (mark i).claim s.shape s.inside (marked_if (ltb s.first t.count) (mark j))
+      (marked_if (ltb s.second t.count) (mark k))
+      → rest_of (fields_of t) image i ≡ cause_then n (mark i).address (rest_of (fields_of t) image (suc i))
+  unfolding fields_of
+  turned image l lent i h s seen j k at_j at_k n cause =
+      verdict_mark (fields_of t) image i (rw (held_count t few full) h) _ (held_mark t few full i h)
+      _ _ seen.0 seen.1 _ _ (held_claim t few full l lent _ _ j seen.2 at_j)
+      (held_claim t few full l lent _ _ k seen.3 at_k)
+      n cause
 
 pub returns-then-image-code : goal.returns-then-image-code
 unfolding fields_of
-returns-then-image-code c = let s = c.args in
-    rw c.refuse.ensures (sym (verdict_short (fields_of s.t) s.image.now c.if-image-code.true))
+returns-then-image-code c =
+    rw c.refuse.ensures (sym (verdict_short (fields_of c.args.t) c.args.image.now c.if-image-code.true))
 
 pub loop-i-init : goal.loop-i-init
 unfolding fields_of
-loop-i-init c = let s = c.args in
-    (omega arith, verdict_start (fields_of s.t) s.image.now c.if-image-code.false)
+loop-i-init c = (omega arith, verdict_start (fields_of c.args.t) c.args.image.now c.if-image-code.false)
 
-pub instruction_at-s-requires : goal.instruction_at-s-requires
-instruction_at-s-requires c = let s = called c {-After_modes-} in (
-  held_above s.args.t s.pre.1 (full s) s.pre.0 UNKNOWN.l.loop.i
-      UNKNOWN.c.before.before.before.before.before.before.loop-test.true,
-  (
-    rising c, {-After_modes-}
-    (
-      UNKNOWN.l.before.before.before.costs.ensures,
-      (
-        UNKNOWN.l.before.before.actions.ensures,
-        UNKNOWN.l.before.modes.ensures,
-      ),
-    ),
-  ),
-)
+pub instruction_at-s-requires-clause-start_le_a : goal.instruction_at-s-requires-clause-start_le_a
+instruction_at-s-requires-clause-start_le_a c =
+    held_above c.args.t c.requires.1 (search rules) c.requires.0 c.loop-i.i c.loop-i-test.true
 
-pub bounds-marks-j : goal.bounds-marks-j
-bounds-marks-j c = let s = called (turn c {-After_instruction_at-}) in rw c.slot-j.ensures (below _ _ _ refl s.pre.1)
-
-pub offset_bounds-marks-j : goal.offset_bounds-marks-j
-offset_bounds-marks-j c = record { fits = omega (arith, array-copy-out-x c {-After_slot2-}) }
-
-pub bounds-marks-k : goal.bounds-marks-k
-bounds-marks-k c = let s = called (turn c {-After_instruction_at-}) in rw c.slot-k.ensures (below _ _ _ refl s.pre.1)
-
-pub offset_bounds-marks-k : goal.offset_bounds-marks-k
-offset_bounds-marks-k c = record { fits = omega (arith, array-copy-out-y c {-After_x-}) }
+pub instruction_at-s-requires-clause-ascending : goal.instruction_at-s-requires-clause-ascending
+instruction_at-s-requires-clause-ascending c =
+    rw (sub-zero, c.addresses_of-addresses.ensures) (ascending _ c.requires.0.rising)
 
 pub returns-then-n-ne0 : goal.returns-then-n-ne0
-returns-then-n-ne0 c = rw (c.refuse-then-n-ne0.ensures, (turn (looked c {-After_cause_at-})).loop.inv.1, turned c, {-After_cause_at-} ne_eqb _ 0 c.if-n-ne0.true)
-
-pub overflow_add-i : goal.overflow_add-i
-overflow_add-i c = record {
-  fits = omega (
-    arith,
-    (looked c {-After_cause_at-}).before.before.before.before.before.before.before.loop-test.taken,
-    (called (turn (looked c {-After_cause_at-}))).pre.1,
-  );
-}
+returns-then-n-ne0 c =
+    let t = c.args.t in
+    let next =
+    turned t c.requires.1 (search rules) c.args.image.now _ (rw sub-zero c.addresses_of-addresses.ensures) c.loop-i.i
+    c.loop-i-test.true _ c.instruction_at-s.ensures _ _ c.slot-j.ensures c.slot-k.ensures _ c.cause_at-n.ensures in
+    rw (c.refuse-then-n-ne0.ensures, c.loop-i.invariant.1, next, ne_eqb _ 0 c.if-n-ne0.true)
 
 pub loop-i-preserved : goal.loop-i-preserved
-loop-i-preserved c = let l = (turn (looked c {-After_cause_at-})).loop in
-    let passed = eq-eqb _ 0 c.if-n-ne0.false in (search rules, rw (add-one, l.inv.1, turned c, {-After_cause_at-} passed))
+loop-i-preserved c =
+    let t = c.args.t in
+    let next =
+    turned t c.requires.1 (search rules) c.args.image.now _ (rw sub-zero c.addresses_of-addresses.ensures) c.loop-i.i
+    c.loop-i-test.true _ c.instruction_at-s.ensures _ _ c.slot-j.ensures c.slot-k.ensures _ c.cause_at-n.ensures in
+    (omega arith, rw (add-one, c.loop-i.invariant.1, next, c.if-n-ne0.false))
 
 pub find-e-requires : goal.find-e-requires
-find-e-requires c = rising c {-After_modes-}
-
-pub bounds-marks-j-2 : goal.bounds-marks-j-2
-bounds-marks-j-2 c = let s = called c {-After_modes-} in rw c.slot-j-2.ensures (below _ _ _ refl s.pre.1)
-
-pub offset_bounds-marks-j-2 : goal.offset_bounds-marks-j-2
-offset_bounds-marks-j-2 c = record { fits = omega (arith, array-copy-out-x-2 c {-After_slot3-}) }
+find-e-requires c = rw (sub-zero, c.addresses_of-addresses.ensures) (ascending _ c.requires.0.rising)
 
 pub returns : goal.returns
 unfolding fields_of
-returns c = let s = called c {-After_modes-} in
-    let t = s.args.t in
-    let all : UNKNOWN.l.loop.i ≡ t.count =
-    omega (arith, UNKNOWN.l.loop.invariant.0, UNKNOWN.c.before.before.before.before.before.before.before.loop-test.false) in
+returns c =
+    let t = c.args.t in
+    let full : length t.marks ≡ 4096 = search rules in
+    let all : c.loop-i.i ≡ t.count = omega arith in
     let claim =
-    held_claim t s.pre.1 (full s) _ (lent c {-After_modes-}) t.header.entry _ _
+    held_claim t c.requires.1 full _ (rw sub-zero c.addresses_of-addresses.ensures) t.header.entry _ _
     c.find-e.ensures c.slot-j-2.ensures in
-    rw (c.whole.ensures, UNKNOWN.l.loop.invariant.1)
-    (sym (verdict_end (fields_of t) s.args.image.now UNKNOWN.l.loop.i (all ∙ sym (held_count t s.pre.1 (full s)))
+    rw (c.whole.ensures, c.loop-i.invariant.1)
+    (sym (verdict_end (fields_of t) c.args.image.now c.loop-i.i (all ∙ sym (held_count t c.requires.1 full))
     c.marked_if.result (rw c.marked_if.ensures claim)))

@@ -1,16 +1,7 @@
 -- `form::address_in` meets its contract: operand by operand, the address is the one that the definition says.
 -- Assumes nothing.
-use borrow.Author.Rules.{rules}
 use Rattle.instructions.specs.Form.{address_in}
 use Rattle.instructions.proofs.form.address_in.Goals as goal
-
-pub overflow_cast-result : goal.overflow_cast-result
-unfolding address_in
-overflow_cast-result c = search rules
-
-pub target-requires : goal.target-requires
-unfolding address_in
-target-requires c = search rules
 
 pub returns-in-Inherent : goal.returns-in-Inherent
 unfolding address_in

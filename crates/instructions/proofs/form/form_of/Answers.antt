@@ -1,56 +1,7 @@
 -- `form::form_of` meets its contract: action by action, the form is the one that the definition says.
 -- Assumes nothing.
-use borrow.Author.Rules.{rules}
 use Rattle.instructions.specs.Entry.{form_of}
 use Rattle.instructions.proofs.form.form_of.Goals as goal
-
-pub load_form-requires : goal.load_form-requires
-unfolding form_of
-load_form-requires c = search rules
-
-pub address_in-requires : goal.address_in-requires
-unfolding form_of
-address_in-requires c = search rules
-
-pub address_in-requires-in-StoreWord : goal.address_in-requires-in-StoreWord
-unfolding form_of
-address_in-requires-in-StoreWord c = search rules
-
-pub address_in-requires-in-Modify : goal.address_in-requires-in-Modify
-unfolding form_of
-address_in-requires-in-Modify c = search rules
-
-pub address_in-requires-in-Bset : goal.address_in-requires-in-Bset
-unfolding form_of
-address_in-requires-in-Bset c = search rules
-
-pub address_in-requires-in-Bclr : goal.address_in-requires-in-Bclr
-unfolding form_of
-address_in-requires-in-Bclr c = search rules
-
-pub target_in-requires : goal.target_in-requires
-unfolding form_of
-target_in-requires c = search rules
-
-pub target_in-requires-in-Brclr : goal.target_in-requires-in-Brclr
-unfolding form_of
-target_in-requires-in-Brclr c = search rules
-
-pub target_in-requires-in-Branch : goal.target_in-requires-in-Branch
-unfolding form_of
-target_in-requires-in-Branch c = search rules
-
-pub branch_form-requires : goal.branch_form-requires
-unfolding form_of
-branch_form-requires c = search rules
-
-pub address_in-requires-in-Jmp : goal.address_in-requires-in-Jmp
-unfolding form_of
-address_in-requires-in-Jmp c = search rules
-
-pub address_in-requires-in-Call : goal.address_in-requires-in-Call
-unfolding form_of
-address_in-requires-in-Call c = search rules
 
 pub returns-in-Inherent : goal.returns-in-Inherent
 unfolding form_of

@@ -1,16 +1,7 @@
 -- `form::target_in` meets its contract: operand by operand, the target is the one that the definition says.
 -- Assumes nothing.
-use borrow.Author.Rules.{rules}
 use Rattle.instructions.specs.Form.{target_in}
 use Rattle.instructions.proofs.form.target_in.Goals as goal
-
-pub target-requires : goal.target-requires
-unfolding target_in
-target-requires c = search rules
-
-pub target-requires-in-MaskBranch : goal.target-requires-in-MaskBranch
-unfolding target_in
-target-requires-in-MaskBranch c = search rules
 
 pub returns-in-Inherent : goal.returns-in-Inherent
 unfolding target_in

@@ -1,6 +1,5 @@
 -- `branch` meets its contract: a branch goes to its target where its test holds.
 -- Assumes nothing.
-use borrow.Author.Rules.{rules}
 use Rattle.instructions.proofs.Branch.{goes}
 use Rattle.instructions.proofs.jump.branch.Goals as goal
 

@@ -1,17 +1,8 @@
 -- `branch_clear` meets its contract: what was called ensures the registers of the effect.
 -- Assumes nothing.
-use borrow.Author.Rules.{rules}
 use mathlib.Core.Path.{refl}
 use Rattle.instructions.proofs.Effects.{opened}
 use Rattle.instructions.proofs.jump.branch_clear.Goals as goal
-
-pub none_set-requires : goal.none_set-requires
-unfolding opened
-none_set-requires c = search rules
-
-pub branch_if-requires : goal.branch_if-requires
-unfolding opened
-branch_if-requires c = search rules
 
 pub returns : goal.returns
 unfolding opened

@@ -1,18 +1,9 @@
 -- `branch_set` meets its contract: what was called ensures the registers of the effect.
 -- Assumes nothing.
-use borrow.Author.Rules.{rules}
 use mathlib.Core.Path.{refl}
 use Rattle.instructions.proofs.Effects.{opened}
 use Rattle.instructions.proofs.jump.branch_set.Goals as goal
 
-pub all_set-requires : goal.all_set-requires
-unfolding opened
-all_set-requires c = search rules
-
-pub branch_if-requires : goal.branch_if-requires
-unfolding opened
-branch_if-requires c = search rules
-
 pub returns : goal.returns
 unfolding opened
-returns c o m v k t = (simp (c.branch_if.ensures, UNKNOWN.c.before.All-set.ensures, v, k, t), refl)
+returns c o m v k t = (simp (c.branch_if.ensures, c.all_set.ensures, v, k, t), refl)

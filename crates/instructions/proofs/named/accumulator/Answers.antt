@@ -1,6 +1,5 @@
 -- `accumulator` meets its contract: a case for each register.
 -- Assumes nothing.
-use borrow.Author.Rules.{rules}
 use Rattle.instructions.specs.Named.{accumulator_of}
 use Rattle.instructions.proofs.named.accumulator.Goals as goal
 

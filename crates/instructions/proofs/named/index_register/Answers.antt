@@ -1,6 +1,5 @@
 -- `index_register` meets its contract: a case for each register.
 -- Assumes nothing.
-use borrow.Author.Rules.{rules}
 use Rattle.instructions.specs.Named.{index_register_of}
 use Rattle.instructions.proofs.named.index_register.Goals as goal
 

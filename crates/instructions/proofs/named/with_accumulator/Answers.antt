@@ -1,16 +1,7 @@
 -- `with_accumulator` meets its contract: a case for each register.
 -- Assumes nothing.
-use borrow.Author.Rules.{rules}
 use Rattle.instructions.specs.Named.{with_accumulator}
 use Rattle.instructions.proofs.named.with_accumulator.Goals as goal
-
-pub with_a-requires : goal.with_a-requires
-unfolding with_accumulator
-with_a-requires c = search rules
-
-pub with_b-requires : goal.with_b-requires
-unfolding with_accumulator
-with_b-requires c = search rules
 
 pub returns-in-A : goal.returns-in-A
 unfolding with_accumulator

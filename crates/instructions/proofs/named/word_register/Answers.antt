@@ -1,12 +1,7 @@
 -- `word_register` meets its contract: a case for each register.
 -- Assumes nothing.
-use borrow.Author.Rules.{rules}
 use Rattle.instructions.specs.Named.{word_register_of}
 use Rattle.instructions.proofs.named.word_register.Goals as goal
-
-pub d-requires : goal.d-requires
-unfolding word_register_of
-d-requires c = search rules
 
 pub returns-in-D : goal.returns-in-D
 unfolding word_register_of

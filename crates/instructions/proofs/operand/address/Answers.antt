@@ -1,71 +1,10 @@
 -- `address` meets its contract: an arm has the mode of its number, and `_` is none.
 -- Assumes nothing.
-use borrow.Author.Rules.{rules}
 use Rattle.opcodes.specs.inner.Numbers.{all_modes}
 use Rattle.opcodes.specs.declared.instruction.Mode.TheVariants.{Inherent}
 use Rattle.opcodes.proofs.Missed.{missed}
 use Rattle.instructions.specs.inner.Sited.{address_at}
 use Rattle.instructions.proofs.operand.address.Goals as goal
-
-pub byte_at-requires : goal.byte_at-requires
-unfolding address_at
-byte_at-requires c = search rules
-
-pub overflow_cast-result : goal.overflow_cast-result
-unfolding address_at
-overflow_cast-result c = search rules
-
-pub word_at-requires : goal.word_at-requires
-unfolding address_at
-word_at-requires c = search rules
-
-pub indexed-requires : goal.indexed-requires
-unfolding address_at
-indexed-requires c = search rules
-
-pub indexed-requires-in-6 : goal.indexed-requires-in-6
-unfolding address_at
-indexed-requires-in-6 c = search rules
-
-pub byte_at-requires-in-7 : goal.byte_at-requires-in-7
-unfolding address_at
-byte_at-requires-in-7 c = search rules
-
-pub target-requires : goal.target-requires
-unfolding address_at
-target-requires c = search rules
-
-pub byte_at-requires-in-8 : goal.byte_at-requires-in-8
-unfolding address_at
-byte_at-requires-in-8 c = search rules
-
-pub overflow_cast-result-in-8 : goal.overflow_cast-result-in-8
-unfolding address_at
-overflow_cast-result-in-8 c = search rules
-
-pub indexed-requires-in-9 : goal.indexed-requires-in-9
-unfolding address_at
-indexed-requires-in-9 c = search rules
-
-pub indexed-requires-in-10 : goal.indexed-requires-in-10
-unfolding address_at
-indexed-requires-in-10 c = search rules
-
-pub byte_at-requires-in-11 : goal.byte_at-requires-in-11
-unfolding address_at
-byte_at-requires-in-11 c = search rules
-
-pub overflow_cast-result-in-11 : goal.overflow_cast-result-in-11
-unfolding address_at
-overflow_cast-result-in-11 c = search rules
-
-pub indexed-requires-in-12 : goal.indexed-requires-in-12
-unfolding address_at
-indexed-requires-in-12 c = search rules
-
-pub indexed-requires-in-13 : goal.indexed-requires-in-13
-unfolding address_at
-indexed-requires-in-13 c = search rules
 
 pub returns-in-0 : goal.returns-in-0
 unfolding address_at
@@ -125,4 +64,4 @@ returns-in-13 c = simp (c.in-13.is, c.indexed-in-13.ensures)
 
 pub returns-in_default : goal.returns-in_default
 unfolding address_at
-returns-in_default c = simp (← missed c.args.k all_modes Inherent c.in_default-own.rest)
+returns-in_default c = simp (← missed c.args.k all_modes Inherent c.in_default.in_default-own.rest)

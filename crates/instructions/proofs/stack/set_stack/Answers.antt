@@ -1,21 +1,8 @@
 -- `set_stack` meets its contract: what was called ensures the registers of the effect.
 -- Assumes nothing.
-use borrow.Author.Rules.{rules}
 use mathlib.Core.Path.{refl}
 use Rattle.instructions.proofs.Effects.{opened}
 use Rattle.instructions.proofs.stack.set_stack.Goals as goal
-
-pub index_register-requires : goal.index_register-requires
-unfolding opened
-index_register-requires c = search rules
-
-pub wrapping_sub-requires : goal.wrapping_sub-requires
-unfolding opened
-wrapping_sub-requires c = search rules
-
-pub with_sp-requires : goal.with_sp-requires
-unfolding opened
-with_sp-requires c = search rules
 
 pub returns : goal.returns
 unfolding opened

@@ -1,23 +1,10 @@
 -- `set_bits` meets its contract: the byte that was made is that of what was read.
 -- Assumes nothing.
-use borrow.Author.Rules.{rules}
 use mathlib.Core.Path.{subst}
 use Prim.Native.Nat.{ℕ, ◌<◌}
 use native.Mathlib.Omega.{arith}
 use Rattle.instructions.proofs.Effects.{opened}
 use Rattle.instructions.proofs.store.set_bits.Goals as goal
-
-pub byte_at-requires : goal.byte_at-requires
-unfolding opened
-byte_at-requires c = search rules
-
-pub bset-b-requires : goal.bset-b-requires
-unfolding opened
-bset-b-requires c = search rules
-
-pub put_result-requires : goal.put_result-requires
-unfolding opened
-put_result-requires c = search rules
 
 pub returns : goal.returns
 unfolding opened

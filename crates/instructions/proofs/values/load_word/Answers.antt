@@ -1,20 +1,7 @@
 -- `load_word` meets its contract: LDS moves SP, the other three do not.
 -- Assumes nothing.
-use borrow.Author.Rules.{rules}
 use Rattle.instructions.proofs.Effects.{opened}
 use Rattle.instructions.proofs.values.load_word.Goals as goal
-
-pub logic16-requires : goal.logic16-requires
-unfolding opened
-logic16-requires c = search rules
-
-pub to_word-q-requires : goal.to_word-q-requires
-unfolding opened
-to_word-q-requires c = search rules
-
-pub with_sp-requires : goal.with_sp-requires
-unfolding opened
-with_sp-requires c = search rules
 
 pub returns-in-D : goal.returns-in-D
 unfolding opened

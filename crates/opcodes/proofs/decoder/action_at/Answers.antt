@@ -1,6 +1,5 @@
 -- `decoder::action_at` meets its contract: the action of the number that stands there.
 -- Assumes nothing.
-use borrow.Author.Rules.{rules}
 use mathlib.Core.Path.{◌∙◌}
 use Rattle.opcodes.proofs.decoder.action_at.Goals as goal
 

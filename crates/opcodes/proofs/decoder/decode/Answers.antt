@@ -1,6 +1,5 @@
 -- `decoder::decode` meets its contract: the callees' promises, put together.
 -- Assumes nothing.
-use borrow.Author.Rules.{rules}
 use Rattle.opcodes.specs.Decode.{instruction_of}
 use Rattle.opcodes.proofs.decoder.decode.Goals as goal
 

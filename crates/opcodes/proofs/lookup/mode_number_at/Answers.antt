@@ -1,6 +1,5 @@
 -- `lookup::mode_number_at` meets its contract: the number that is read stands for the mode.
 -- Assumes nothing.
-use borrow.Author.Rules.{rules}
 use Rattle.opcodes.specs.Tables.{modes, mode_at}
 use Rattle.opcodes.specs.inner.Numbers.{mode_of}
 use Rattle.opcodes.proofs.Lent.{lent}

@@ -1,6 +1,5 @@
 -- `lookup::number_at` meets its contract: the number that is read stands for the action.
 -- Assumes nothing.
-use borrow.Author.Rules.{rules}
 use Rattle.opcodes.specs.Tables.{actions, action_at}
 use Rattle.opcodes.specs.inner.Numbers.{action_of}
 use Rattle.opcodes.proofs.Lent.{lent}

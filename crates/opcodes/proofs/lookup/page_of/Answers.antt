@@ -20,5 +20,5 @@ returns-in-205 c = (sym (ap page_of c.in-205.is), search rules)
 
 pub returns-in_default : goal.returns-in_default
 unfolding page_of
-returns-in_default c = let missed = c.in_default-own.rest in
+returns-in_default c = let missed = c.in_default.in_default-own.rest in
     (simp (ne_eqb _ _ missed.0.0.1, ne_eqb _ _ missed.0.1, ne_eqb _ _ missed.1), search rules)

@@ -7,7 +7,7 @@ use Rattle.opcodes.proofs.Skipped.{skipped}
 use Rattle.opcodes.proofs.numbered.action_of.Goals as goal
 
 pub stack_action-requires : goal.stack_action-requires
-stack_action-requires c = skipped c.args.n 0 30 (omega arith) c.in_default-own.rest
+stack_action-requires c = skipped c.args.n 0 30 (omega arith) c.in_default.in_default-own.rest
 
 pub returns-in-0 : goal.returns-in-0
 returns-in-0 c = ap action_of (sym c.in-0.is)

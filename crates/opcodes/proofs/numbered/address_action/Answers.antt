@@ -130,4 +130,4 @@ returns-in-136 c = ap action_of (sym c.in-136.is)
 
 pub returns-in_default : goal.returns-in_default
 returns-in_default c = sym (get_or-eq_default all_actions Test (skipped c.args.n 97 40 (omega arith)
-    c.in_default-own.rest))
+    c.in_default.in_default-own.rest))

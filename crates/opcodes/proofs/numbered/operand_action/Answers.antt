@@ -7,7 +7,7 @@ use Rattle.opcodes.proofs.Skipped.{skipped}
 use Rattle.opcodes.proofs.numbered.operand_action.Goals as goal
 
 pub address_action-requires : goal.address_action-requires
-address_action-requires c = skipped c.args.n 67 30 (omega arith) c.in_default-own.rest
+address_action-requires c = skipped c.args.n 67 30 (omega arith) c.in_default.in_default-own.rest
 
 pub returns-in-67 : goal.returns-in-67
 returns-in-67 c = ap action_of (sym c.in-67.is)

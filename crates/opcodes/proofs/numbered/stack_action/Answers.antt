@@ -7,7 +7,7 @@ use Rattle.opcodes.proofs.Skipped.{skipped}
 use Rattle.opcodes.proofs.numbered.stack_action.Goals as goal
 
 pub operand_action-requires : goal.operand_action-requires
-operand_action-requires c = skipped c.args.n 30 37 (omega arith) c.in_default-own.rest
+operand_action-requires c = skipped c.args.n 30 37 (omega arith) c.in_default.in_default-own.rest
 
 pub returns-in-30 : goal.returns-in-30
 returns-in-30 c = ap action_of (sym c.in-30.is)

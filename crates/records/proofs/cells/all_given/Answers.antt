@@ -1,12 +1,9 @@
 -- `all_given` meets its contract: what is left of the cells decides, once those passed are given.
 -- Assumes nothing.
-use borrow.Author.Rules.{rules}
-use mathlib.Core.Path.{◌≡◌, refl, sym, ◌∙◌}
-use Prim.Native.Nat.{◌-◌, ◌≤◌}
+use mathlib.Core.Path.{sym, ◌∙◌}
 use native.Mathlib.Omega.{arith}
 use borrow.Author.Tests.{lt-ltb, le-ltb}
-use lib.ListN.{length, drop, get_or, drop_of_length-le}
-use Rattle.records.specs.Read.{all_given}
+use lib.ListN.{get_or, drop_of_length-le}
 use Rattle.records.proofs.AllGiven.{next_cell}
 use Rattle.records.proofs.cells.all_given.Goals as goal
 
@@ -23,5 +20,3 @@ loop-i-preserved c = let cells = c.args.cells.now in
 
 pub returns : goal.returns
 returns c = rw (drop_of_length-le c.args.cells.now {i = c.loop-i.i} c.loop-i-test.false) at c.loop-i.invariant.1
-
--- loop-i-init: (λ c. (omega arith, refl))

@@ -1,9 +1,8 @@
 -- `copy` meets its contract. The loop's invariant: the first i cells are copied, and the image is as long as it was.
 -- Assumes nothing.
-use borrow.Author.Rules.{rules}
-use mathlib.Core.Path.{◌≡◌, refl, sym, ◌∙◌}
+use mathlib.Core.Path.{◌≡◌, sym, ◌∙◌}
 use mathlib.Core.List.{List}
-use Prim.Native.Nat.{ℕ, ◌+◌, ◌-◌, ◌≤◌, ◌<◌}
+use Prim.Native.Nat.{ℕ, ◌+◌, ◌<◌}
 use native.Mathlib.Numerals.{add-one}
 use native.Mathlib.Omega.{arith}
 use lib.ListN.{length, take, get_or, set, length-set}
@@ -31,5 +30,3 @@ pub returns : goal.returns
 returns c = let cells = c.args.cells.now in
     sym (take_all c.loop-i.i c.loop-i.image (omega arith)) ∙ c.loop-i.invariant.2
     ∙ take_all c.loop-i.i cells (omega arith)
-
--- loop-i-init: (λ c. (omega arith, sym c.requires.0, refl))

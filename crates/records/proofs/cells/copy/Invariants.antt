@@ -1,14 +1,8 @@
 -- `copy` meets its contract. The loop's invariant: the first i cells are copied, and the image is as long as it was.
 -- Assumes nothing.
-use borrow.Author.Rules.{rules}
-use mathlib.Core.Path.{◌≡◌, refl, sym, ◌∙◌}
-use mathlib.Core.List.{List}
-use Prim.Native.Nat.{ℕ, ◌+◌, ◌-◌, ◌≤◌, ◌<◌}
-use native.Mathlib.Numerals.{add-one}
-use native.Mathlib.Omega.{arith}
-use lib.ListN.{length, take, get_or, set, length-set}
-use lib.Seq.{take-suc, take-suc-set, take_all}
-use Rattle.records.proofs.AllGiven.{given_byte}
+use mathlib.Core.Path.{◌≡◌}
+use Prim.Native.Nat.{◌-◌, ◌≤◌}
+use lib.ListN.{length, take}
 use Rattle.records.proofs.cells.copy.Given as goal
 
 abbrev pub invariant-loop-i : goal.invariant-loop-i

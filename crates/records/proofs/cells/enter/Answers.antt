@@ -1,13 +1,9 @@
 -- `enter` meets its contract. The loop's invariant: what is left of the bytes leads to what all of them do.
 -- Assumes nothing.
-use borrow.Author.Rules.{rules}
-use mathlib.Core.Path.{◌≡◌, refl, sym, ◌∙◌}
-use Prim.Native.Nat.{◌+◌, ◌-◌, ◌≤◌}
+use mathlib.Core.Path.{refl, sym, ◌∙◌}
 use native.Mathlib.Nat.{add-zero}
 use native.Mathlib.Omega.{arith}
-use lib.ListN.{length, drop, length-set, drop_of_length-le}
-use Rattle.commands.specs.declared.header.Window.{Window}
-use Rattle.records.specs.Record.{given_from}
+use lib.ListN.{length-set, drop_of_length-le}
 use Rattle.records.specs.Read.{enter}
 use Rattle.records.proofs.Enter.{below, above, twice, entered_byte}
 use Rattle.records.proofs.cells.enter.Goals as goal
@@ -32,9 +28,6 @@ returns-then-cells-j-lt256 c = let a = c.args in
     let e = twice a.code c.loop-i.cells a.address a.«data».now c.loop-i.i c.loop-i-test.true
     c.if-a-start.false c.if-past-a.false c.if-cells-j-lt256.true in
     (sym e ∙ c.loop-i.invariant.2 a.code refl refl, c.loop-i.invariant.1)
-
-pub overflow_cast-cells : goal.overflow_cast-cells
-overflow_cast-cells c = omega (arith, c.shared_slice_known-1.given c.loop-i.i)
 
 pub loop-i-preserved : goal.loop-i-preserved
 loop-i-preserved c = let a = c.args in (

@@ -1,15 +1,11 @@
 -- `enter` meets its contract. The loop's invariant: what is left of the bytes leads to what all of them do.
 -- Assumes nothing.
-use borrow.Author.Rules.{rules}
-use mathlib.Core.Path.{◌≡◌, refl, sym, ◌∙◌}
+use mathlib.Core.Path.{◌≡◌}
 use Prim.Native.Nat.{◌+◌, ◌-◌, ◌≤◌}
-use native.Mathlib.Nat.{add-zero}
-use native.Mathlib.Omega.{arith}
-use lib.ListN.{length, drop, length-set, drop_of_length-le}
+use lib.ListN.{length, drop}
 use Rattle.commands.specs.declared.header.Window.{Window}
 use Rattle.records.specs.Record.{given_from}
 use Rattle.records.specs.Read.{enter}
-use Rattle.records.proofs.Enter.{below, above, twice, entered_byte}
 use Rattle.records.proofs.cells.enter.Given as goal
 
 -- the loop has no window, but where it starts and where it is past

@@ -1,11 +1,7 @@
 -- `decode` meets its contract. The loop's invariant: the bytes so far stand in the buffer, before those of the rest.
 -- Assumes nothing.
-use borrow.Author.Rules.{rules}
-use mathlib.Core.Path.{sym, ◌∙◌}
-use Prim.Native.Nat.{◌-◌, ◌≤◌}
-use native.Mathlib.Omega.{arith}
-use Rattle.records.proofs.DecodePairs.{Pair, small_digits}
-use Rattle.records.proofs.DecodeSoFar.{SoFar, so_far_none, so_far_next, ended_here, cut_short, no_digits, too_many}
+use Prim.Native.Nat.{◌-◌}
+use Rattle.records.proofs.DecodeSoFar.{SoFar}
 use Rattle.records.proofs.decode.decode.Given as goal
 
 abbrev pub invariant-loop-n : goal.invariant-loop-n

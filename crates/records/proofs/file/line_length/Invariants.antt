@@ -1,13 +1,9 @@
 -- `line_length` meets its contract: the bytes passed, and the first line of what is left, are the first line.
 -- Assumes nothing.
-use borrow.Author.Rules.{rules}
-use mathlib.Core.Path.{◌≡◌, ap, ◌∙◌}
+use mathlib.Core.Path.{◌≡◌}
 use Prim.Native.Nat.{◌+◌, ◌-◌, ◌≤◌}
-use native.Mathlib.Omega.{arith}
-use borrow.Author.Tests.{eq-eqb, ne_eqb}
-use lib.ListN.{length, drop, drop_of_length-le}
+use lib.ListN.{length, drop}
 use Rattle.records.specs.inner.Decoded.{line_length}
-use Rattle.records.proofs.Lines.{next_byte, no_byte}
 use Rattle.records.proofs.file.line_length.Given as goal
 
 abbrev pub invariant-loop-i : goal.invariant-loop-i

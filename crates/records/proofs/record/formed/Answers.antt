@@ -1,7 +1,5 @@
 -- `formed` meets its contract: the tests stand in the order of the definition.
 -- Assumes nothing.
-use borrow.Author.Rules.{rules}
-use native.Mathlib.Omega.{arith}
 use borrow.Author.Tests.{le-leb, lt-leb, eq-eqb, ne_eqb}
 use Rattle.records.specs.Read.{formed}
 use Rattle.records.proofs.record.formed.Goals as goal
@@ -9,12 +7,6 @@ use Rattle.records.proofs.record.formed.Goals as goal
 pub returns-then-n-lt4 : goal.returns-then-n-lt4
 unfolding formed
 returns-then-n-lt4 c = simp (lt-leb 4 _ c.if-n-lt4.true)
-
-pub overflow_cast-bytes : goal.overflow_cast-bytes
-overflow_cast-bytes c = omega (arith, c.shared_slice_known-2-1.given 0)
-
-pub overflow_add-bytes : goal.overflow_add-bytes
-overflow_add-bytes c = omega (arith, c.shared_slice_known-2-1.given 0)
 
 pub returns-then-bytes-n : goal.returns-then-bytes-n
 unfolding formed
@@ -44,7 +36,7 @@ returns-in-57 c = simp (le-leb 4 _ c.if-n-lt4.false, eq-eqb _ _ c.if-bytes-n.fal
 pub returns-in_default : goal.returns-in_default
 unfolding formed
 returns-in_default c = let t = c.args.t in
-    let no = c.in_default-own.rest in
+    let no = c.in_default.in_default-own.rest in
     simp (
       le-leb 4 _ c.if-n-lt4.false,
       eq-eqb _ _ c.if-bytes-n.false,

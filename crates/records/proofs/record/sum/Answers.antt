@@ -1,22 +1,12 @@
 -- `sum` meets its contract. The loop's invariant: s and the bytes left have the sum's last eight bits.
 -- Assumes nothing.
-use mathlib.Core.Path.{◌≡◌}
-use Prim.Native.Nat.{◌+◌, ◌-◌, ◌%◌, ◌≤◌, ◌<◌}
 use native.Mathlib.Nat.{zero-add}
 use native.Mathlib.Omega.{arith}
-use lib.ListN.{length, drop}
-use Rattle.records.specs.Record.{sum}
 use Rattle.records.proofs.RecordBytes.{sum_next, sum_all}
 use Rattle.records.proofs.record.sum.Goals as goal
 
 pub loop-i-init : goal.loop-i-init
 loop-i-init c = (omega arith, omega arith, simp zero-add)
-
-pub overflow_cast-s : goal.overflow_cast-s
-overflow_cast-s c = omega (arith, c.shared_slice_known-1.given c.loop-i.i)
-
-pub overflow_add-s : goal.overflow_add-s
-overflow_add-s c = omega (arith, c.shared_slice_known-1.given c.loop-i.i)
 
 pub loop-i-preserved : goal.loop-i-preserved
 loop-i-preserved c = let l = c.loop-i in

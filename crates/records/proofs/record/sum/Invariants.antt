@@ -2,11 +2,8 @@
 -- Assumes nothing.
 use mathlib.Core.Path.{◌≡◌}
 use Prim.Native.Nat.{◌+◌, ◌-◌, ◌%◌, ◌≤◌, ◌<◌}
-use native.Mathlib.Nat.{zero-add}
-use native.Mathlib.Omega.{arith}
 use lib.ListN.{length, drop}
 use Rattle.records.specs.Record.{sum}
-use Rattle.records.proofs.RecordBytes.{sum_next, sum_all}
 use Rattle.records.proofs.record.sum.Given as goal
 
 abbrev pub invariant-loop-i : goal.invariant-loop-i

@@ -1,6 +1,5 @@
 -- `bytes` meets its contract: each column is its byte's.
 -- Assumes nothing.
-use borrow.Author.Rules.{rules}
 use Rattle.text.proofs.ListingColumns.{shown}
 use Rattle.text.proofs.listing.bytes.Goals as goal
 

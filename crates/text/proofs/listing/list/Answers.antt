@@ -11,15 +11,8 @@ use Rattle.opcodes.proofs.Says.{in_tables, entry}
 use Rattle.text.proofs.Listed.{nowhere, narrow, size, there}
 use Rattle.text.proofs.listing.list.Goals as goal
 
--- back to the call
-abbrev called : tie.After-found-of → tie.Start
-called c = c.before.before.before
-
-abbrev bytes : tie.After-found-of → Bytes
-bytes c = let z = (called c).args in five z.a z.b z.c z.d z.e
-
 pub overflow_cast-size : goal.overflow_cast-size
-overflow_cast-size c = let h = sym c.found_of.ensures ∙ c.in-At.is in omega (arith, narrow (bytes c {-After_found_of-}) h)
+overflow_cast-size c = let h = sym c.found_of.ensures ∙ c.in-At.is in omega (arith, narrow (five c.args.a c.args.b c.args.c c.args.d c.args.e) h)
 
 pub listed-requires : goal.listed-requires
 listed-requires c = let h = sym c.found_of.ensures ∙ c.in-At.is in in_tables _ _ h
@@ -29,12 +22,12 @@ listed-requires-else-n-eq1 c = let h = sym c.found_of.ensures ∙ c.in-At.is in 
 
 pub returns-in-Nothing : goal.returns-in-Nothing
 returns-in-Nothing c = let h = sym c.found_of.ensures ∙ c.in-Nothing.is in
-    simp (nowhere (bytes c {-After_found_of-}) h, c.bytes.ensures)
+    simp (nowhere (five c.args.a c.args.b c.args.c c.args.d c.args.e) h, c.bytes.ensures)
 
 pub returns-then-n-eq1 : goal.returns-then-n-eq1
 returns-then-n-eq1 c = let h = sym c.found_of.ensures ∙ c.in-At.is in
     simp (
-      there (bytes c {-After_found_of-}) h,
+      there (five c.args.a c.args.b c.args.c c.args.d c.args.e) h,
       c.listed.ensures,
       c.bytes-text.ensures,
       c.wrapping_add-next.ensures,
@@ -44,9 +37,9 @@ returns-then-n-eq1 c = let h = sym c.found_of.ensures ∙ c.in-At.is in
 
 pub returns-else-n-eq1 : goal.returns-else-n-eq1
 returns-else-n-eq1 c = let h = sym c.found_of.ensures ∙ c.in-At.is in
-    let two = ⊎_elim (λ e. absurd (c.if-n-eq1.false e)) (λ e. e) (size (bytes c {-After_found_of-}) h) in
+    let two = ⊎_elim (λ e. absurd (c.if-n-eq1.false e)) (λ e. e) (size (five c.args.a c.args.b c.args.c c.args.d c.args.e) h) in
     simp (
-      there (bytes c {-After_found_of-}) h,
+      there (five c.args.a c.args.b c.args.c c.args.d c.args.e) h,
       c.listed-else-n-eq1.ensures,
       c.bytes-text.ensures,
       c.wrapping_add-next.ensures,

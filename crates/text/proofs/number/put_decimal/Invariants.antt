@@ -1,13 +1,9 @@
 -- `put_decimal` puts the digits from the last to the first. The loop's invariant: those from i on are put, the rest are
 -- those of `left`, and the output is as long as it was.
 -- Assumes nothing.
-use mathlib.Core.Path.{◌≡◌, refl}
-use Prim.Native.Nat.{◌-◌}
-use native.Mathlib.Omega.{arith}
-use borrow.Author.Rules.{rules}
-use lib.ListN.{length, length-set}
-use Rattle.text.proofs.Digits.{decimal_most}
-use Rattle.text.proofs.Backward.{Ending, ending_none, ending_next, ending_all}
+use mathlib.Core.Path.{◌≡◌}
+use lib.ListN.{length}
+use Rattle.text.proofs.Backward.{Ending}
 use Rattle.text.proofs.number.put_decimal.Given as goal
 
 abbrev pub invariant-loop-i : goal.invariant-loop-i

@@ -1,13 +1,9 @@
 -- `put_text` copies the bytes. The loop's invariant: the first i bytes are copied, and the output is as long as it was.
 -- Assumes nothing.
-use mathlib.Core.Path.{◌≡◌, refl, ◌∙◌}
-use mathlib.Core.List.{[], append-nil}
+use mathlib.Core.Path.{◌≡◌}
 use Prim.Native.Nat.{◌-◌, ◌≤◌}
-use native.Mathlib.Omega.{arith}
-use native.Mathlib.Numerals.{add-one}
-use lib.ListN.{length, length-set}
-use lib.Seq.{paste, paste-zero, paste-suc}
-use Rattle.lists.proofs.Splice.{paste_spliced}
+use lib.ListN.{length}
+use lib.Seq.{paste}
 use Rattle.text.proofs.number.put_text.Given as goal
 
 abbrev pub invariant-loop-i : goal.invariant-loop-i

@@ -1,7 +1,6 @@
 -- `width` counts the digits. The loop's invariant: k is one more than the digits that are divided away.
 -- Assumes nothing.
-use native.Mathlib.Omega.{arith}
-use Rattle.text.proofs.Digits.{Counted, counted_none, counted_next, counted_all, counted_most}
+use Rattle.text.proofs.Digits.{Counted}
 use Rattle.text.proofs.number.width.Given as goal
 
 abbrev pub invariant-loop-left : goal.invariant-loop-left

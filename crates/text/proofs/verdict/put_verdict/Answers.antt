@@ -1,6 +1,5 @@
 -- `put_verdict` meets its contract: the line of the verdict's kind, which has at most 34 bytes.
 -- Assumes nothing.
-use borrow.Author.Rules.{rules}
 use mathlib.Core.Path.{◌≡◌}
 use lib.ListN.{length}
 use Rattle.text.specs.Verdict.{line_of}

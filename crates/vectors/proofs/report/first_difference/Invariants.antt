@@ -1,0 +1,10 @@
+-- `first_difference` ends. The measure is what is left of memory.
+-- Assumes nothing.
+use Rattle.std.proofs.Common.{◌-◌, ◌≤◌}
+use Rattle.vectors.proofs.report.first_difference.Given as goal
+
+abbrev pub invariant-loop-i : goal.invariant-loop-i
+invariant-loop-i l = l.i ≤ 65536
+
+abbrev pub decreases-loop-i : goal.decreases-loop-i
+decreases-loop-i l = 65536 - l.i
