@@ -27,6 +27,7 @@ put_command-at-requires c =
     ))
 
 pub loop-i-preserved : goal.loop-i-preserved
+unfolding width_of
 loop-i-preserved c =
     let l = c.loop-i in
     let t = c.args.t in
