@@ -1,7 +1,7 @@
 // An inner crate: whole files in lent buffers, for the programs at the desk.
 #![tactic(auto)]
 
-ghost use Rattle.files.specs.Counts.{IsPrefixLen};
+ghost use Rattle.files.specs.inner.Counts.{IsPrefixLen};
 
 use output::text;
 use std::io::{ErrorKind, Read};

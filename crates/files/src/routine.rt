@@ -1,6 +1,6 @@
 // A routine's two files in the folder that a program is run in: first the image, press.bin or, where there is none, the
 // S-record file press.s19 (document 02, a); then the ticket, press.tkt.
-ghost use Rattle.files.specs.Counts.{IsPrefixLen};
+ghost use Rattle.files.specs.inner.Counts.{IsPrefixLen};
 
 use crate::{File, load, unfit};
 use std::rt::Files;
