@@ -1,7 +1,7 @@
 """Holds pages and files to what their readers are told.
 
 - Lines have at most 120 characters, in every file that git tracks, but for stored data, tables and quoted output in
-  Markdown, and rows of byte strings in code.
+  Markdown, rows of byte strings in code, and tactic attributes there, which the formatter keeps on one line.
 - crates.txt orders the crates under headings, the layers; a crate names only crates that stand above it.
 - What a page quotes as a path of this repository (`crates/..`, `docs/..`, .., or CRATE/specs/.., CRATE/proofs/..,
   CRATE/src/.., CRATE/must-fail/..) is there.
@@ -27,7 +27,7 @@ def wide(root, name):
     for number, line in enumerate(lines, 1):
         quoted ^= line.startswith('```')
         table = name.endswith('.md') and (quoted or line.startswith(('|', '    ')))
-        row = name.endswith('.rt') and re.match(r' *\*?b"', line)
+        row = name.endswith('.rt') and re.match(r' *(\*?b"|#\[tactic\()', line)
         if len(line) > WIDTH and not table and not row:
             yield f'line {number} has {len(line)} characters'
 

@@ -28,6 +28,7 @@ pub enum Argument {
 }
 
 // Whether a text begins so.
+#[tactic(auto, using(crate::proofs::Begins::too_short, crate::proofs::Begins::next_byte, crate::proofs::Begins::no_byte))]
 fn starts_with(s: &[u8], p: &[u8]) -> bool
     ensures { (result ≡ starts_with p.now s.now)
         × (result ≡ true → length p.now ≤ length s.now) }
@@ -55,6 +56,7 @@ fn set_to(n: Setting, p: Parsed) -> Argument
 }
 
 // A file's name is not empty.
+#[tactic(auto, unfolding(crate::specs::Argument::other_of))]
 fn other(s: &[u8]) -> Argument
     ensures { result ≡ other_of s.now }
 {
@@ -75,6 +77,7 @@ fn other(s: &[u8]) -> Argument
     Argument::Unknown
 }
 
+#[tactic(auto, using(crate::proofs::Begins::rest), unfolding(crate::specs::Argument::argument_of))]
 pub fn argument_in(s: &[u8]) -> Argument
     ensures { result ≡ argument_of s.now }
 {

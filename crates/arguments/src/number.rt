@@ -11,6 +11,7 @@ pub enum Parsed {
 }
 
 // In a base up to 16, at most `most`. A text without digits spells none.
+#[tactic(auto, using(crate::proofs::Spelled::no_digits, crate::proofs::Spelled::some_digits, crate::proofs::Spelled::last_digit))]
 pub fn number(s: &[u8], base: u32, most: u32) -> Parsed
     requires { base ≤ 16 }
     ensures { result ≡ number_of base most s.now }

@@ -15,7 +15,7 @@ use lib.Seq.{get_or-set_same, get_or-set_other}
 use Rattle.commands.specs.declared.header.Window.{Window}
 use Rattle.commands.specs.Every.{Every, none, more}
 use Rattle.ticket.specs.Rules.{In}
-use Rattle.ticket.proofs.Says.{leb_says, ltb_says}
+use Rattle.ticket.proofs.Says.{leb_says}
 use Rattle.records.specs.Record.{Given, Once, Gives, here, there}
 use Rattle.records.specs.Read.{free, enter}
 use Rattle.records.proofs.Inverse.{passed, some_same}

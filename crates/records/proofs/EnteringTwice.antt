@@ -10,7 +10,6 @@ use Rattle.commands.specs.declared.header.Window.{Window}
 use Rattle.records.specs.Record.{Given}
 use Rattle.records.specs.Read.{free, enter}
 use Rattle.records.proofs.Inverse.{some_same, passed}
-use Rattle.records.proofs.LineLaw as Line
 
 module _ (w : Window) where
   pub enter_both : (g h : List Given) (cs es ds : List ℕ) → enter w cs g ≡ some es → enter w es h ≡ some ds

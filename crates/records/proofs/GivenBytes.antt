@@ -2,13 +2,11 @@
 -- Assumes nothing.
 use Prim.Native.Nat.{ℕ, suc, ◌<◌}
 use mathlib.Core.List.{List, [], ◌∷◌, ◌++◌}
-use mathlib.Core.Option.{none}
 use Rattle.commands.specs.Every.{Every}
 use Rattle.commands.specs.Number.{AllBytes}
 use Rattle.commands.proofs.Every.{first}
 use Rattle.records.specs.Record.{Record, Given, given_from, Records, s0, s1, s5, s9, Gives, here, there}
 use Rattle.records.proofs.Spelling.{hex_bytes}
-use Rattle.records.proofs.LineLaw as Line
 
 -- the bytes that records give are bytes
 front : (xs ys : List ℕ) → AllBytes (xs ++ ys) → AllBytes xs

@@ -17,12 +17,12 @@ use Rattle.commands.specs.declared.header.Window.{Window}
 use Rattle.answers.specs.declared.Refusal.{Refusal}
 use Rattle.records.specs.declared.progress.FileProgress.{FileProgress}
 use Rattle.records.specs.Record.{Record, Given, given_from, Records, s0, s1, s5, s9, Gives, Names}
-use Rattle.records.specs.Read.{lines_of, address_of, data_of, typed, enter, after, LineOutcome, cause, next}
+use Rattle.records.specs.Read.{lines_of, address_of, data_of, enter, LineOutcome, cause, next}
 use Rattle.records.specs.Read.{line_of, named, refused, all_given, close_of, onward, file_from, initial}
 use Rattle.records.specs.Read.{blank_cells, file_of}
 use Rattle.records.proofs.Entering.{entered_once, entered_inside, entered_size, old_or_given}
-use Rattle.records.proofs.Entering.{entered, none_entered}
-use Rattle.records.proofs.RecordLaw.{is_record, formed_encoded, inside}
+use Rattle.records.proofs.Entering.{none_entered}
+use Rattle.records.proofs.RecordLaw.{is_record, formed_encoded}
 use Rattle.records.proofs.LineLaw as Line
 use Rattle.records.proofs.Joined.{joined, joined_lines}
 use Rattle.records.proofs.EnteringTwice.{enter_both}

@@ -6,7 +6,6 @@ use mathlib.Core.Bool.{Bool, true, false, cond}
 use mathlib.Core.List.{List, [], ◌∷◌, ◌++◌}
 use lib.Dec.{eqb}
 use Rattle.records.specs.Read.{onto, lines_of}
-use Rattle.records.proofs.LineLaw as Line
 
 -- the lines of a file, put together again
 abbrev pub joined : List (List ℕ) → List ℕ

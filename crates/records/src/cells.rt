@@ -8,6 +8,7 @@ ghost use Rattle.records.specs.inner.Decoded.{entered};
 use commands::header::Window;
 
 // The bytes of an S1 line. Whether each lies in the code window and was not given before.
+#[tactic(auto, using(crate::proofs::Enter::below, crate::proofs::Enter::above, crate::proofs::Enter::twice, crate::proofs::Enter::entered_byte), unfolding(crate::specs::Read::enter))]
 pub fn enter(code: Window, address: usize, data: &[u8], cells: &mut [u16]) -> bool
     requires { (code.length ≤ 4096) × (length cells.old ≡ 4096) × (address < 65536)
         × (length «data».now ≤ 256) }
@@ -36,6 +37,7 @@ pub fn enter(code: Window, address: usize, data: &[u8], cells: &mut [u16]) -> bo
     true
 }
 
+#[tactic(auto, using(crate::proofs::AllGiven::next_cell))]
 pub fn all_given(cells: &[u16]) -> bool
     ensures { result ≡ all_given cells.now }
 {
@@ -50,6 +52,7 @@ pub fn all_given(cells: &[u16]) -> bool
 }
 
 // The image, when each of its bytes is given.
+#[tactic(auto, using(crate::proofs::AllGiven::given_byte))]
 pub fn copy(cells: &[u16], image: &mut [u8])
     requires { (length cells.now ≡ length image.old) × (all_given cells.now ≡ true) }
     ensures { image.new ≡ cells.now }

@@ -26,6 +26,7 @@ fn ends(s: &[u8]) -> bool
 }
 
 // Up to the line's end, into a buffer. More than 256 bytes are more than a count says.
+#[tactic(auto, using(crate::proofs::DecodeSoFar::so_far_none, crate::proofs::DecodeSoFar::ended_here, crate::proofs::DecodeSoFar::cut_short, crate::proofs::DecodeSoFar::no_digits, crate::proofs::DecodeSoFar::too_many, crate::proofs::DecodePairs::small_digits))]
 pub fn decode(s: &[u8], buffer: &mut [u8]) -> Decoded
     requires { length buffer.old ≡ 256 }
     ensures { (decoded result buffer.new ≡ countable (bytes_of s.now)) × Within result 256 }

@@ -18,6 +18,7 @@ pub enum LineAnswer {
 }
 
 // A line's first two characters and its bytes.
+#[tactic(auto, using(crate::proofs::LineBy::formed_long, crate::proofs::LineBy::wrong_sum, crate::proofs::LineBy::gives_none, crate::proofs::LineBy::not_entered, crate::proofs::LineBy::entered_as_given))]
 fn judged(
     code: Window,
     p: FileProgress,
@@ -61,6 +62,7 @@ fn judged(
     })
 }
 
+#[tactic(auto, using(crate::proofs::CountableBytes::short_line, crate::proofs::CountableBytes::malformed_line, crate::proofs::CountableBytes::counted_line))]
 pub fn judge(code: Window, p: FileProgress, line: &[u8], cells: &mut [u16]) -> LineAnswer
     requires { Counted p × (code.length ≤ 4096) × (length cells.old ≡ 4096) }
     ensures { (after_line result cells.new ≡ line_of code p cells.old line.now)

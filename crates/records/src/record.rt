@@ -11,6 +11,7 @@ pub fn address_of(bytes: &[u8]) -> usize
 }
 
 // As many bytes as the count says, and as its type wants them, where s1 S1 lines come before it.
+#[tactic(auto, unfolding(crate::specs::Read::formed))]
 pub fn formed(t: u8, s1: usize, bytes: &[u8]) -> bool
     ensures { result ≡ formed t s1 bytes.now }
 {
@@ -31,6 +32,7 @@ pub fn formed(t: u8, s1: usize, bytes: &[u8]) -> bool
 }
 
 // The sum of the bytes, of which the last eight bits count.
+#[tactic(auto, using(crate::proofs::RecordBytes::sum_next, crate::proofs::RecordBytes::sum_all))]
 pub fn sum(bytes: &[u8]) -> u16
     ensures { result ≡ sum bytes.now % 256 }
 {

@@ -4,9 +4,9 @@ use mathlib.Core.Path.{◌≡◌, refl}
 use mathlib.Core.Bool.{Bool, true, false, cond}
 use mathlib.Core.List.{List, [], ◌∷◌}
 use Prim.Native.Nat.{ℕ, zero, suc, ◌+◌, ◌/◌, ◌%◌, ◌^◌, ◌≤◌, ◌<◌}
-use native.Mathlib.Nat.{mod-eq_of_lt, pow-suc, div-lt_iff_lt-mul}
+use native.Mathlib.Nat.{mod-eq_of_lt}
 use native.Mathlib.Omega.{arith}
-use borrow.Author.Tests.{ltb-true, lt-ltb, le-ltb}
+use borrow.Author.Tests.{ltb-true, lt-ltb}
 use lib.Dec.{ltb}
 use lib.ListN.{length}
 use Rattle.text.specs.Number.{decimal_before, decimal_of}
@@ -76,20 +76,5 @@ pub record Counted (n left k : ℕ) : Type 0 where
 pub counted_none : (n : ℕ) → n < 10 ^ 10 → Counted n n 1
 counted_none n h = record { more = 9; small = h; so_far = omega arith }
 
-pub counted_next : {n left k : ℕ} → Counted n left k → 10 ≤ left → Counted n (left / 10) (k + 1)
-counted_next {n} {left} {k} c h = step c.more c.small c.so_far
-  where
-    step : (m : ℕ) → left < 10 ^ suc m → k + count_of (suc m) left ≡ suc (count_of 10 n) → Counted n (left / 10) (k + 1)
-    step zero s e = absurd (omega arith)
-    step (suc m) s e =
-        record {
-          more = m;
-          small = (div-lt_iff_lt-mul {k = 10} (omega arith)).1 (rw pow-suc at s);
-          so_far = omega (arith, rw (le-ltb left 10 h) at e);
-        }
-
 pub counted_all : {n left k : ℕ} → Counted n left k → left < 10 → k ≡ length (decimal_of n)
 counted_all {n} {left} c h = rw (length_decimal n) (omega (arith, rw (lt-ltb left 10 h) at c.so_far))
-
-pub counted_most : {n left k : ℕ} → Counted n left k → k ≤ 11
-counted_most {n} c = omega (arith, c.so_far, count_most 10 n)

@@ -57,8 +57,7 @@ fn with_word(t: [u8; 17], at: usize, n: u16) -> [u8; 17]
 
 // Of the three bytes after the opcode, u, v and w, a mode takes as many as it has; `next` is the address after the
 // instruction.
-#[tactic(auto, // over the patterns' definitions
-unfolding(crate::specs::Operand::operand_text, lists::specs::Splice::spliced, crate::specs::Number::hex_of))]
+#[tactic(auto, unfolding(crate::specs::Operand::operand_text, lists::specs::Splice::spliced, crate::specs::Number::hex_of))]
 pub fn operand(m: Mode, u: u8, v: u8, w: u8, next: u16) -> [u8; 17]
     ensures { result ≡ operand_text m u v w next }
 {

@@ -8,9 +8,7 @@ use Rattle.records.specs.declared.decode.Decoded.{Decoded}
 use Rattle.records.specs.declared.decode.Decoded.TheVariants.{Bytes, Malformed}
 use Rattle.records.specs.declared.progress.FileProgress.{FileProgress}
 use Rattle.records.specs.declared.line.LineAnswer.{LineAnswer}
-use Rattle.records.specs.declared.line.LineAnswer.TheVariants as LineAnswer
 use Rattle.records.specs.declared.answer.Loaded.{Loaded}
-use Rattle.records.specs.declared.answer.Loaded.TheVariants as Loaded
 use Rattle.records.specs.Read.{LineOutcome, cause, next, FileOutcome, named, refused}
 
 -- bytes at the beginning of a buffer
