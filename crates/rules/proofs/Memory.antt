@@ -32,12 +32,16 @@ unfolding with_byte
 length_applied [] m = refl
 length_applied (w ∷ ws) m = length_applied ws (set m w.at w.value) ∙ length-set m w.at w.value
 
-pub byte_applied : (a : ℕ) {ws : List Store} (m : List ℕ) → Every (λ w. w.at ≡ a → ⊥) ws →
+byte_applied_at : (a : ℕ) {ws : List Store} (m : List ℕ) → Every (λ w. w.at ≡ a → ⊥) ws →
     byte_at (applied ws m) a ≡ byte_at m a
 unfolding byte_at with_byte
-byte_applied a m none = refl
-byte_applied a m (more {a = w} h hs) =
-    byte_applied a (set m w.at w.value) hs ∙ get_or-set_other m w.at a w.value 0 (λ e. h (sym e))
+byte_applied_at a m none = refl
+byte_applied_at a m (more {a = w} h hs) =
+    byte_applied_at a (set m w.at w.value) hs ∙ get_or-set_other m w.at a w.value 0 (λ e. h (sym e))
+
+pub byte_applied : {ws : List Store} (m : List ℕ) (a : ℕ) → Every (λ w. w.at ≡ a → ⊥) ws →
+    byte_at (applied ws m) a ≡ byte_at m a
+byte_applied m a h = byte_applied_at a m h
 
 -- the two bytes over b, high byte below low byte, hold v
 abbrev pub HoldsWord : List ℕ → ℕ → ℕ → Type 0

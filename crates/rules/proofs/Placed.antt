@@ -60,10 +60,10 @@ module _
       pub code_kept : (image : List ℕ) → length image ≡ f.header.code.length → Filled f image m →
           Filled f image (applied ws m)
       code_kept image size filled i h =
-          byte_applied (f.header.code.start + i) m (every_map (λ w p e. off_code w p (omega arith, omega arith)) P) ∙
+          byte_applied m (f.header.code.start + i) (every_map (λ w p e. off_code w p (omega arith, omega arith)) P) ∙
           filled i h
 
       pub stack_kept : Stacked f need (applied ws m) b us
       stack_kept =
           stacked_keep f need m (applied ws m) b us (λ x h t.
-          byte_applied x m (every_map (λ w p. off_stack w p x h t) P)) S
+          byte_applied m x (every_map (λ w p. off_stack w p x h t) P)) S
