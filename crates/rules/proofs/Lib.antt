@@ -4,6 +4,7 @@ pub mod Sound
 pub mod Complete
 pub mod Exact
 pub mod Obeys
+pub mod AnyStep
 pub mod SameShape
 pub mod Memory
 pub mod Marks

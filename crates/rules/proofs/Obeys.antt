@@ -82,7 +82,7 @@ module _ (r : Registers) (m : List ℕ) (low : r.sp < 65536) where
   top n h = (0, omega arith, omega arith)
 
   -- next is the address after the instruction; w is what it computed, which does not matter
-  by_form : (g : Form) (next k : ℕ) (w : Outcome) → did_of r m
+  pub by_form : (g : Form) (next k : ℕ) (w : Outcome) → did_of r m
       ≡ executed (waits g) r (effect_with g (with_pc r next) w m) k
       → flow_of m r.pc ≡ flow_by g → Obeys (shape_by g next k) r m
   unfolding effect_by address_of wrapping_add wrapping_sub
@@ -113,22 +113,6 @@ module _ (r : Registers) (m : List ℕ) (low : r.sp < 65536) where
   by_form Interrupts next k w e h = tt
   by_form Resumes next k w e h = tt
   by_form Waits next k w e h = tt
-
-  by_decoded : (p : ℕ) (d : Decoded) → did_of r m ≡ carried_out p d r m → flow_of m r.pc ≡ flow_in p d r.pc →
-      Obeys (shape_in p d r.pc) r m
-  unfolding carried_out effect_of
-  by_decoded p Nothing e h = tt
-  by_decoded p (Instruction a o) e h =
-      let next = wrapping_add r.pc (length_at p) in
-      let q = with_pc r next in
-      by_form (form_of a o next) next (cycles_at p) (outcome_of a (mask_of o) (input_of (reads_of a) o q m) q) e h
-
-pub obeys : (r : Registers) (m : List ℕ) → length m ≡ 65536 → r.sp < 65536 →
-    Obeys (shape_of (fetched m r.pc) r.pc) r m
-unfolding shape_of did_of flow_of
-obeys r m whole low =
-    let f = fetched m r.pc in
-    by_decoded r m low (place_in f) (decode_of f) (ap (λ (b : Bool). did_if b r m) (eq-eqb _ _ whole)) refl
 
 pub busy : (r q : Registers) (m : List ℕ) (ws : List Store) (k : ℕ) → did_of r m ≡ did q ws k → 2 ≤ k
 unfolding step_of

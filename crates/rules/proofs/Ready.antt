@@ -22,7 +22,8 @@ use Rattle.rules.specs.Rules.{Follows, OrdinaryRules, CallRules, ReturnRules, Ru
 use Rattle.stepper.specs.Flow.{flow_of}
 use Rattle.rules.specs.InUse.{in_use_after}
 use Rattle.rules.specs.Claim.{top_of, Spares}
-use Rattle.rules.proofs.Obeys.{every_some, Stored, Obeys, obeys}
+use Rattle.rules.proofs.Obeys.{every_some, Stored, Obeys}
+use Rattle.rules.proofs.AnyStep.{obeys}
 use Rattle.rules.proofs.SameShape.{same_shape}
 use Rattle.rules.proofs.Memory.{less_is, plus_is, moved_is, length_applied, pushed_holds, word_holds}
 use Rattle.rules.proofs.Marks.{holding}
