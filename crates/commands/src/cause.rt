@@ -32,7 +32,7 @@ fn may_come(stage: u8, n: u8) -> bool
 }
 
 // The header's commands in their order, before all others.
-fn in_order_parts(p: Progress, c: Command) -> bool
+fn in_order(p: Progress, c: Command) -> bool
     ensures { result ≡ in_order p c }
 {
     may_come(p.stage, row_of(byte_of(c)).stage) & follows(p, c)
@@ -169,7 +169,7 @@ pub fn cause(p: Progress, c: Command) -> u8
     ensures { result ≡ command_cause_of p c }
 {
     let h = p.header;
-    if !in_order_parts(p, c) {
+    if !in_order(p, c) {
         return 3;
     }
     if !ranges_hold(c) {

@@ -44,8 +44,8 @@ module _ (p : Progress) (c : Command) where
     none : n ≡ 0 → home_outside p.header c ≡ true → inside p.header c ≡ true → 0 ≡ command_cause_of p c
     none z h i = rw (← cleared z, h, i)
 
-pub returns-then-not-in_order_parts : goal.returns-then-not-in_order_parts
-returns-then-not-in_order_parts c = unordered _ _ (cc)
+pub returns-then-not-in_order : goal.returns-then-not-in_order
+returns-then-not-in_order c = unordered _ _ (cc)
 
 pub returns-then-not-ranges_hold : goal.returns-then-not-ranges_hold
 returns-then-not-ranges_hold c = unranged _ _ (cc) (cc)
