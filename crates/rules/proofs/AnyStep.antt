@@ -29,7 +29,8 @@ module _ (r : Registers) (m : List ℕ) (low : r.sp < 65536) where
   by_decoded p (Instruction a o) e h =
       let next = wrapping_add r.pc (length_at p) in
       let q = with_pc r next in
-      by_form r m low (form_of a o next) next (cycles_at p) (outcome_of a (mask_of o) (input_of (reads_of a) o q m) q) e h
+      by_form r m low (form_of a o next) next (cycles_at p)
+      (outcome_of a (mask_of o) (input_of (reads_of a) o q m) q) e h
 
 pub obeys : (r : Registers) (m : List ℕ) → length m ≡ 65536 → r.sp < 65536 →
     Obeys (shape_of (fetched m r.pc) r.pc) r m
