@@ -38,7 +38,8 @@ MISFITS = re.compile(
 # What it says of a fact that is not proved: `simp`, `cc`, `rw`, `omega`, `search`, a term of another type, a proof that
 # it makes itself. Whatever is said in no such words counts as a misfit.
 FACTS = re.compile(
-    r'must be a path whose two ends are equal|no equation of the list has an instance|before the equations had joined'
+    r'give a proof of that as the last argument|list the missing equation with its arguments'
+    r'|must be a path whose two ends are equal|no equation of the list has an instance|before the equations had joined'
     r'|no occurrence of the path|does not follow from what it read|`(search|grind)`: no proof of'
     r'|the two (types|indices)|but this has type|it is not proved that')
 SAID = re.compile(r'rt: must-fail (\w+)/(\S+?)\.edit: (.*)')
