@@ -41,7 +41,7 @@ FACTS = re.compile(
     r'give a proof of that as the last argument|list the missing equation with its arguments'
     r'|must be a path whose two ends are equal|no equation of the list has an instance|before the equations had joined'
     r'|no occurrence of the path|does not follow from what it read|`(search|grind)`: no proof of'
-    r'|the two (types|indices)|but this has type|it is not proved that')
+    r'|the two (types|indices)|expected type `|but this has type|it is not proved that')
 SAID = re.compile(r'rt: must-fail (\w+)/(\S+?)\.edit: (.*)')
 REFUSED = 'refused, as it must be'
 ERROR = re.compile(r'(?:\./)?((?:proofs|specs)/\S*?\.antt)(?::(\d+):(\d+))?: error: (?:`([^`]*)`: )?')
@@ -150,7 +150,7 @@ def class_of(error, crate):
         # a proof file that answers other goals may answer this one by the name that it had
         return UNCLEAR if answered and error.goal not in answered else found
     if not error.file.endswith('/Answers.antt'):
-        if not re.search('the two types|but this has type', first):
+        if not re.search('the two types|expected type `|but this has type', first):
             return PROMISE
         # A term of quite another type says that the proof does not fit, and not what is wrong.
         return UNCLEAR if error.text == first else PROMISE if differ_in_a_value(error.text) else MISFIT
