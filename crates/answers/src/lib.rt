@@ -19,9 +19,12 @@ pub fn refuse(number: u8, place: u32) -> Refusal
     Refusal { number, place }
 }
 
-// Acceptance answers the entry, its cost (the certified cycles) and its need + 2.
+// The entry, its cost (the certified cycles), and its need + 2 bytes of stack.
 #[derive(Clone, Copy)]
-pub enum Verdict {
-    Accept(u16, Cycles, StackBytes),
-    Refuse(Refusal),
+pub struct Acceptance {
+    pub entry: u16,
+    pub cost: Cycles,
+    pub stack: StackBytes,
 }
+
+pub type Verdict = Result<Acceptance, Refusal>;

@@ -1,12 +1,11 @@
 -- What stands at an address, by the bytes from there on: an opcode of one byte, or $18, $1A or $CD and a second byte;
 -- then the operand (document 01).
 -- Assumes nothing.
-use Rattle.std.specs.Prelude.{ℕ, ◌+◌, ◌*◌, cond, eqb, ltb}
+use Rattle.std.specs.Prelude.{ℕ, ◌+◌, ◌*◌, cond, eqb, ltb, Option, Some, None}
 use Rattle.opcodes.specs.declared.instruction.Address.{Address}
 use Rattle.opcodes.specs.declared.instruction.Operand.{Operand}
 use Rattle.opcodes.specs.declared.instruction.Mode.{Mode}
 use Rattle.opcodes.specs.declared.instruction.Decoded.{Decoded}
-use Rattle.opcodes.specs.declared.instruction.Decoded.TheVariants.{Instruction, Nothing}
 use Rattle.opcodes.specs.Tables.{cost_at, action_at, mode_at}
 
 -- the bytes from an address on, by their offset: only the first five are looked at
@@ -64,16 +63,16 @@ operand_size Mode.MaskBranchY = 3
 
 -- the instruction of a place, whose operand's bytes are u, v and w
 unfoldable pub instruction_of : ℕ → ℕ → ℕ → ℕ → Decoded
-instruction_of place u v w = Instruction (action_at place) (operand_of (mode_at place) u v w)
+instruction_of place u v w = record { action = action_at place; operand = operand_of (mode_at place) u v w }
 
 abbrev pub place_in : Bytes → ℕ
 place_in f = opcode_place (f 0) (f 1)
 
 -- no instruction where the table has 0
-unfoldable pub decode_at : ℕ → Bytes → Decoded
+unfoldable pub decode_at : ℕ → Bytes → Option Decoded
 decode_at place f =
     let n = opcode_size place in
-    cond (eqb (cost_at place) 0) Nothing (instruction_of place (f n) (f (n + 1)) (f (n + 2)))
+    cond (eqb (cost_at place) 0) None (Some (instruction_of place (f n) (f (n + 1)) (f (n + 2))))
 
-abbrev pub decode_of : Bytes → Decoded
+abbrev pub decode_of : Bytes → Option Decoded
 decode_of f = decode_at (place_in f) f

@@ -1,28 +1,25 @@
 // The instruction at a place of the opcode maps, as an action with an operand. The verdict goes by it; the step goes by
 // the tables' numbers.
-ghost use Rattle.std.specs.Prelude.{◌≡◌, map, ◌<◌};
-ghost use Rattle.opcodes.specs.Tables.{actions, modes, action_at, mode_at};
-ghost use Rattle.opcodes.specs.inner.Numbers.{action_of, mode_of};
+ghost use Rattle.std.specs.Prelude.{◌≡◌, ◌<◌};
+ghost use Rattle.opcodes.specs.Tables.{action_at, mode_at};
 ghost use Rattle.opcodes.specs.Decode.{word_from, operand_of, instruction_of};
 
 use crate::instruction::{Action, Address, Decoded, Mode, Operand};
 use crate::lookup::{mode_number_at, number_at};
 use crate::numbered::{action_of, mode_of};
 
-pub fn action_at(place: usize, ta: &[u8; 1024]) -> Action
-    requires place_bound { place < 1024 }
-    requires ta_value { map action_of ta.now ≡ actions }
+pub fn action_at(place: usize) -> Action
+    requires { place < 1024 }
     ensures { result ≡ action_at place }
 {
-    action_of(number_at(place, ta))
+    action_of(number_at(place))
 }
 
-pub fn mode_at(place: usize, tm: &[u8; 1024]) -> Mode
-    requires place_bound { place < 1024 }
-    requires tm_value { map mode_of tm.now ≡ modes }
+pub fn mode_at(place: usize) -> Mode
+    requires { place < 1024 }
     ensures { result ≡ mode_at place }
 {
-    mode_of(mode_number_at(place, tm))
+    mode_of(mode_number_at(place))
 }
 
 fn word_from(high: u8, low: u8) -> u16
@@ -54,14 +51,13 @@ fn operand_of(mode: Mode, u: u8, v: u8, w: u8) -> Operand
 }
 
 // The instruction of a place, whose operand's bytes are u, v and w.
-pub fn decode(place: usize, u: u8, v: u8, w: u8, ta: &[u8; 1024], tm: &[u8; 1024]) -> Decoded
-    requires place_bound { place < 1024 }
-    requires ta_value { map action_of ta.now ≡ actions }
-    requires tm_value { map mode_of tm.now ≡ modes }
+#[tactic(auto, unfolding(crate::specs::Decode::instruction_of))]
+pub fn decode(place: usize, u: u8, v: u8, w: u8) -> Decoded
+    requires { place < 1024 }
     ensures { result ≡ instruction_of place u v w }
 {
-    let a = action_at(place, ta);
-    let m = mode_at(place, tm);
-    let o = operand_of(m, u, v, w);
-    Decoded::Instruction(a, o)
+    Decoded {
+        action: action_at(place),
+        operand: operand_of(mode_at(place), u, v, w),
+    }
 }

@@ -156,9 +156,9 @@ pub enum Operand {
 }
 
 #[derive(Clone, Copy)]
-pub enum Decoded {
-    Instruction(Action, Operand),
-    Nothing,
+pub struct Decoded {
+    pub action: Action,
+    pub operand: Operand,
 }
 
 // How an operand is written in the bytes after the opcode.

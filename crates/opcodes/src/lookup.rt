@@ -1,16 +1,19 @@
 // The place of an instruction in the opcode maps, by its first two bytes; and what the tables have at a place.
-ghost use Rattle.std.specs.Prelude.{◌≡◌, map, ◌<◌, ◌≤◌};
-ghost use Rattle.opcodes.specs.Tables.{costs, actions, modes, action_at, mode_at};
+ghost use Rattle.std.specs.Prelude.{◌≡◌, ◌<◌, ◌≤◌};
+ghost use Rattle.opcodes.specs.Tables.{action_at, mode_at};
 ghost use Rattle.opcodes.specs.inner.Numbers.{action_of, mode_of};
 ghost use Rattle.opcodes.specs.Decode.{page_of};
 ghost use Rattle.opcodes.specs.inner.Lookup.{found_of};
 
+use crate::table::{actions, costs, modes};
+
 // An instruction's place in the maps, how many bytes its opcode has, and its entry in the table of costs. Each has the
 // width that the loop of the stepper takes it in: an index, a part of an address, a count of cycles.
 #[derive(Clone, Copy)]
-pub enum Found {
-    At { place: usize, size: u16, cost: u32 },
-    Nothing,
+pub struct Found {
+    pub place: usize,
+    pub size: u16,
+    pub cost: u32,
 }
 
 // 256 times the map that a first byte leads to.
@@ -26,48 +29,42 @@ pub fn page_of(op: u8) -> u16
 }
 
 // Only where the first map has nothing is the first byte looked at again: it may lead to another map.
-pub fn found_of(first: u8, second: u8, tc: &[u16; 1024]) -> Found
-    requires { tc.now ≡ costs }
+pub fn found_of(first: u8, second: u8) -> Option<Found>
     ensures { result ≡ found_of first second }
 {
+    let table = costs();
     let place = first as usize;
-    let cost = tc[place] as u32;
+    let cost = table[place] as u32;
     if cost != 0 {
-        return Found::At {
-            place: place,
-            size: 1,
-            cost: cost,
-        };
+        return Some(Found { place, size: 1, cost });
     }
     let page = page_of(first);
     if page == 0 {
-        return Found::Nothing;
+        return None;
     }
     let paged = (page + (second as u16)) as usize;
-    let paged_cost = tc[paged] as u32;
+    let paged_cost = table[paged] as u32;
     if paged_cost == 0 {
-        return Found::Nothing;
+        return None;
     }
-    Found::At {
+    Some(Found {
         place: paged,
         size: 2,
         cost: paged_cost,
-    }
+    })
 }
 
 // The number of the action of a place.
-pub fn number_at(place: usize, ta: &[u8; 1024]) -> u8
-    requires place_bound { place < 1024 }
-    requires ta_value { map action_of ta.now ≡ actions }
+pub fn number_at(place: usize) -> u8
+    requires { place < 1024 }
     ensures { action_of result ≡ action_at place }
 {
-    ta[place]
+    actions()[place]
 }
 
-pub fn mode_number_at(place: usize, tm: &[u8; 1024]) -> u8
-    requires place_bound { place < 1024 }
-    requires tm_value { map mode_of tm.now ≡ modes }
+pub fn mode_number_at(place: usize) -> u8
+    requires { place < 1024 }
     ensures { mode_of result ≡ mode_at place }
 {
-    tm[place]
+    modes()[place]
 }

@@ -1,12 +1,12 @@
-// The four opcode maps, 256 places each: what stands at a place. Whoever reads a table makes it once, and lends it.
-// The three constants are written by tools/opcode_tables.py, from the rows and the numbers of specs/.
+// The four opcode maps, 256 places each: what stands at a place. The three statics are written by
+// tools/opcode_tables.py, from the rows and the numbers of specs/.
 ghost use Rattle.std.specs.Prelude.{◌≡◌, map};
 ghost use Rattle.opcodes.specs.Tables.{costs, actions, modes};
 ghost use Rattle.opcodes.specs.inner.Numbers.{action_of, mode_of};
 
 // 256 times the length, and the cycles; 0 where no instruction is.
 #[rattlefmt::skip]
-const COSTS: [u16; 1024] = [
+static COSTS: [u16; 1024] = [
     0x0102, 0x0102, 0x0129, 0x0129, 0x0103, 0x0103, 0x0102, 0x0102, // 0x000
     0x0103, 0x0103, 0x0102, 0x0102, 0x0102, 0x0102, 0x0102, 0x0102, // 0x008
     0x0102, 0x0102, 0x0406, 0x0406, 0x0306, 0x0306, 0x0102, 0x0102, // 0x010
@@ -139,7 +139,7 @@ const COSTS: [u16; 1024] = [
 
 // The number of the action.
 #[rattlefmt::skip]
-const ACTIONS: [u8; 1024] = [
+static ACTIONS: [u8; 1024] = [
     137, 0, 1, 2, 3, 4, 5, 6, 7, 8, 11, 12, 13, 14, 15, 16, // 0x000
     17, 18, 115, 116, 113, 114, 19, 20, 0, 21, 0, 22, 113, 114, 115, 116, // 0x010
     117, 118, 119, 120, 121, 122, 123, 124, 125, 126, 127, 128, 129, 130, 131, 132, // 0x020
@@ -208,7 +208,7 @@ const ACTIONS: [u8; 1024] = [
 
 // The number of the mode.
 #[rattlefmt::skip]
-const MODES: [u8; 1024] = [
+static MODES: [u8; 1024] = [
     0, 0, 0, 0, 0, 0, 0, 0, 0, 0, 0, 0, 0, 0, 0, 0, // 0x000
     0, 0, 11, 11, 8, 8, 0, 0, 0, 0, 0, 0, 9, 9, 12, 12, // 0x010
     7, 7, 7, 7, 7, 7, 7, 7, 7, 7, 7, 7, 7, 7, 7, 7, // 0x020
@@ -275,20 +275,20 @@ const MODES: [u8; 1024] = [
     0, 0, 0, 0, 0, 0, 0, 0, 0, 0, 0, 0, 0, 0, 0, 0, // 0x3f0
 ];
 
-pub fn costs() -> [u16; 1024]
-    ensures { result ≡ costs }
+pub fn costs() -> &'static [u16; 1024]
+    ensures { result.now ≡ costs }
 {
-    COSTS
+    &COSTS
 }
 
-pub fn actions() -> [u8; 1024]
-    ensures { map action_of result ≡ actions }
+pub fn actions() -> &'static [u8; 1024]
+    ensures { map action_of result.now ≡ actions }
 {
-    ACTIONS
+    &ACTIONS
 }
 
-pub fn modes() -> [u8; 1024]
-    ensures { map mode_of result ≡ modes }
+pub fn modes() -> &'static [u8; 1024]
+    ensures { map mode_of result.now ≡ modes }
 {
-    MODES
+    &MODES
 }

@@ -1,12 +1,13 @@
 -- What the code looks up by the first two bytes of an instruction. An inner matter of the code: what stands at an
 -- address is `decode_of`.
 -- Assumes nothing.
-use Rattle.std.specs.Prelude.{ℕ, cond, eqb}
+use Rattle.std.specs.Prelude.{ℕ, cond, eqb, Option, Some, None}
 use Rattle.opcodes.specs.declared.lookup.Found.{Found}
 use Rattle.opcodes.specs.Tables.{cost_at}
 use Rattle.opcodes.specs.Decode.{opcode_place, opcode_size}
 
 -- the place, the size of the opcode and the entry of the table, where an instruction is
-unfoldable pub found_of : ℕ → ℕ → Found
+unfoldable pub found_of : ℕ → ℕ → Option Found
 found_of first second =
-    let p = opcode_place first second in cond (eqb (cost_at p) 0) Found.Nothing (Found.At p (opcode_size p) (cost_at p))
+    let p = opcode_place first second in
+    cond (eqb (cost_at p) 0) None (Some (record { place = p; size = opcode_size p; cost = cost_at p }))
