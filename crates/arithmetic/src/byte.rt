@@ -3,33 +3,27 @@ ghost use Rattle.std.specs.Prelude.{◌≡◌, eqb};
 ghost use Rattle.registers.specs.Flags.{bit, flags_of, byte_of};
 ghost use Rattle.arithmetic.specs.Codes.{with_nzvc};
 ghost use Rattle.arithmetic.specs.Result.{result_of};
-ghost use Rattle.arithmetic.specs.inner.Packed.{packed8};
+ghost use Rattle.arithmetic.specs.inner.Packed.{packed};
 ghost use Rattle.arithmetic.specs.Byte.{add8_of, sub8_of, logic8_of, tst_of, shifted8, unary_of, logical, binary_of};
 ghost use Rattle.arithmetic.specs.Byte.{bset_of, bclr_of};
 
-use crate::codes::{overflow, with_h, with_low_bits, with_nzv, with_nzvc};
+use crate::codes::{Coded, overflow, with_h, with_low_bits, with_nzv, with_nzvc};
 use lists::bit::one;
 use opcodes::instruction::{Binary, Unary};
 
-#[derive(Clone, Copy)]
-pub struct ByteResult {
-    pub value: u8,
-    pub flags: u8,
-}
-
 // The byte r with N and Z of it, V as bit 7 of what `overflow` answered, and C as given.
-fn coded_by_overflow(r: u8, o: u16, c: bool, f: u8) -> ByteResult
-    ensures { result ≡ packed8 (result_of r (with_nzvc (flags_of f) (bit 7 r) (eqb r 0) (bit 7 o) c)) }
+fn coded_by_overflow(r: u8, o: u16, c: bool, f: u8) -> Coded<u8>
+    ensures { result ≡ packed (result_of r (with_nzvc (flags_of f) (bit 7 r) (eqb r 0) (bit 7 o) c)) }
 {
-    ByteResult {
+    Coded {
         value: r,
         flags: with_low_bits(f, (r as u16) / 128, r == 0, o / 128, c),
     }
 }
 
 // ADD, ADC, ABA. H and C are read off the sums of the low half-bytes and of the bytes.
-pub fn add8(x: u8, m: u8, carry: bool, f: u8) -> ByteResult
-    ensures { result ≡ packed8 (add8_of x m carry (flags_of f)) }
+pub fn add8(x: u8, m: u8, carry: bool, f: u8) -> Coded<u8>
+    ensures { result ≡ packed (add8_of x m carry (flags_of f)) }
 {
     let k = one(carry);
     let half = x % 16 + m % 16 + k;
@@ -40,18 +34,18 @@ pub fn add8(x: u8, m: u8, carry: bool, f: u8) -> ByteResult
 }
 
 // The byte r with N and Z of it, and V and C as given.
-pub fn coded(r: u8, v: bool, c: bool, f: u8) -> ByteResult
-    ensures { result ≡ packed8 (result_of r (with_nzvc (flags_of f) (bit 7 r) (eqb r 0) v c)) }
+pub fn coded(r: u8, v: bool, c: bool, f: u8) -> Coded<u8>
+    ensures { result ≡ packed (result_of r (with_nzvc (flags_of f) (bit 7 r) (eqb r 0) v c)) }
 {
-    ByteResult {
+    Coded {
         value: r,
         flags: with_nzvc(f, r / 128 % 2 == 1, r == 0, v, c),
     }
 }
 
 // SUB, SBC, CMP, SBA, CBA, and NEG, where x is 0. C says that what is taken away is more than x.
-pub fn sub8(x: u8, m: u8, borrow: bool, f: u8) -> ByteResult
-    ensures { result ≡ packed8 (sub8_of x m borrow (flags_of f)) }
+pub fn sub8(x: u8, m: u8, borrow: bool, f: u8) -> Coded<u8>
+    ensures { result ≡ packed (sub8_of x m borrow (flags_of f)) }
 {
     let from = x as u16;
     let less = (m as u16) + (one(borrow) as u16);
@@ -74,15 +68,15 @@ pub fn tst(m: u8, f: u8) -> u8
 }
 
 // The byte r, out of which the bit c was shifted.
-fn shifted(r: u8, c: bool, f: u8) -> ByteResult
-    ensures { result ≡ packed8 (shifted8 r c (flags_of f)) }
+fn shifted(r: u8, c: bool, f: u8) -> Coded<u8>
+    ensures { result ≡ packed (shifted8 r c (flags_of f)) }
 {
     coded(r, (r / 128 % 2 == 1) ^ c, c, f)
 }
 
 // The ten that make a byte of a byte.
-pub fn unary(u: Unary, m: u8, f: u8) -> ByteResult
-    ensures { result ≡ packed8 (unary_of u m (flags_of f)) }
+pub fn unary(u: Unary, m: u8, f: u8) -> Coded<u8>
+    ensures { result ≡ packed (unary_of u m (flags_of f)) }
 {
     let w = m as u16;
     let low = m % 2 == 1;
@@ -104,26 +98,25 @@ pub fn unary(u: Unary, m: u8, f: u8) -> ByteResult
 }
 
 // The byte r with the condition codes of the logical operations.
-fn logical8(r: u8, f: u8) -> ByteResult
-    ensures { result ≡ packed8 (logical r (flags_of f)) }
+fn logical8(r: u8, f: u8) -> Coded<u8>
+    ensures { result ≡ packed (logical r (flags_of f)) }
 {
     coded(r, false, f % 2 == 1, f)
 }
 
 // The ten of an accumulator x and an operand byte m: what the accumulator becomes.
-pub fn binary(b: Binary, x: u8, m: u8, f: u8) -> ByteResult
-    ensures { result ≡ packed8 (binary_of b x m (flags_of f)) }
+pub fn binary(b: Binary, x: u8, m: u8, f: u8) -> Coded<u8>
+    ensures { result ≡ packed (binary_of b x m (flags_of f)) }
 {
     match b {
         Binary::Sub => sub8(x, m, false, f),
-        Binary::Cmp => {
-            let difference = sub8(x, m, false, f);
-            let g = difference.flags;
-            ByteResult { value: x, flags: g }
-        }
+        Binary::Cmp => Coded {
+            value: x,
+            flags: sub8(x, m, false, f).flags,
+        },
         Binary::Sbc => sub8(x, m, f % 2 == 1, f),
         Binary::And => logical8(x & m, f),
-        Binary::Bit => ByteResult {
+        Binary::Bit => Coded {
             value: x,
             flags: logic8(x & m, f),
         },
@@ -136,15 +129,15 @@ pub fn binary(b: Binary, x: u8, m: u8, f: u8) -> ByteResult
 }
 
 // The bits of the mask are set in m.
-pub fn bset(m: u8, mask: u8, f: u8) -> ByteResult
-    ensures { result ≡ packed8 (bset_of m mask (flags_of f)) }
+pub fn bset(m: u8, mask: u8, f: u8) -> Coded<u8>
+    ensures { result ≡ packed (bset_of m mask (flags_of f)) }
 {
     logical8(m | mask, f)
 }
 
 // The bits of the mask are cleared in m.
-pub fn bclr(m: u8, mask: u8, f: u8) -> ByteResult
-    ensures { result ≡ packed8 (bclr_of m mask (flags_of f)) }
+pub fn bclr(m: u8, mask: u8, f: u8) -> Coded<u8>
+    ensures { result ≡ packed (bclr_of m mask (flags_of f)) }
 {
     logical8(m & (255 - mask), f)
 }

@@ -1,10 +1,17 @@
-// The byte of the condition codes with some of them changed, and V of a sum or a difference.
+// What an operation answers; the byte of the condition codes with some of them changed; and V of a sum or a difference.
 ghost use Rattle.std.specs.Prelude.{◌≡◌, ℕ};
 ghost use Rattle.registers.specs.Flags.{bit, low, flags_of, byte_of};
 ghost use Rattle.arithmetic.specs.Codes.{with_nzvc, with_nzv, with_hnzvc, with_z, with_v, with_c, with_zvc};
 ghost use Rattle.arithmetic.specs.Codes.{overflow_sum};
 
 use lists::bit::one;
+
+// A byte or a word that an operation made, with the condition codes.
+#[derive(Clone, Copy)]
+pub struct Coded<T> {
+    pub value: T,
+    pub flags: u8,
+}
 
 // N and V are the lowest bits of n and v, with no test of them. S, X, H and I stay: they are the upper half of the
 // byte.

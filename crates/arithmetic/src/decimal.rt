@@ -1,14 +1,15 @@
 // DAA: the sum of two bytes of decimal digits, made decimal again.
 ghost use Rattle.std.specs.Prelude.{◌≡◌};
 ghost use Rattle.registers.specs.Flags.{flags_of};
-ghost use Rattle.arithmetic.specs.inner.Packed.{packed8};
+ghost use Rattle.arithmetic.specs.inner.Packed.{packed};
 ghost use Rattle.arithmetic.specs.Decimal.{daa_of};
 
-use crate::byte::{ByteResult, coded};
+use crate::byte::coded;
+use crate::codes::Coded;
 use lists::bit::one;
 
-pub fn daa(a: u8, f: u8) -> ByteResult
-    ensures { result ≡ packed8 (daa_of a (flags_of f)) }
+pub fn daa(a: u8, f: u8) -> Coded<u8>
+    ensures { result ≡ packed (daa_of a (flags_of f)) }
 {
     let low = (f / 32 % 2 == 1) | (9 < a % 16);
     let high = (f % 2 == 1) | (0x99 < a);
