@@ -2,8 +2,7 @@
 -- 25 malformed line, 26 wrong checksum, 27 byte outside the code window, given twice, or never given).
 -- Assumes nothing.
 use Rattle.std.specs.Prelude.{ℕ, ◌+◌, ◌-◌, ◌*◌, ◌%◌, Bool, true, false, cond, not, ◌&&◌, List, [], ◌∷◌, ◌++◌, eqb, leb}
-use Rattle.std.specs.Prelude.{ltb, length, get_or, set, take, drop, replicate}
-use Rattle.std.proofs.Math.Option.{Option, none, some}
+use Rattle.std.specs.Prelude.{ltb, length, get_or, set, take, drop, replicate, Option, Some, None}
 use Rattle.lists.specs.Digit.{digit_of}
 use Rattle.lists.specs.Bit.{one}
 use Rattle.answers.specs.declared.Refusal.{Refusal}
@@ -30,23 +29,24 @@ ends_of (c ∷ []) = eqb c 0x0a
 ends_of (c ∷ d ∷ []) = eqb c 0x0d && eqb d 0x0a
 ends_of (c ∷ d ∷ e ∷ s) = false
 
-abbrev pub is_pair : ℕ → ℕ → Bool
-is_pair c d = ltb (digit_of c) 16 && ltb (digit_of d) 16
+-- the byte of two digits, the higher first; none where one of them is no digit
+abbrev pub pair_of : Option ℕ → Option ℕ → Option ℕ
+pair_of None l = None
+pair_of (Some h) None = None
+pair_of (Some h) (Some l) = Some (16 * h + l)
 
-abbrev pub pair_of : ℕ → ℕ → ℕ
-pair_of c d = 16 * digit_of c + digit_of d
-
--- bytes before others, where there are any
-abbrev pub before : List ℕ → Option (List ℕ) → Option (List ℕ)
-before xs none = none
-before xs (some ys) = some (xs ++ ys)
+-- a byte before others, where there are both
+abbrev pub before : Option ℕ → Option (List ℕ) → Option (List ℕ)
+before None o = None
+before (Some b) None = None
+before (Some b) (Some bs) = Some (b ∷ bs)
 
 -- the bytes that digits spell up to a line's end; none where anything else stands there
 unfoldable pub bytes_of : List ℕ → Option (List ℕ)
-bytes_of [] = none
-bytes_of (c ∷ []) = cond (ends_of (c ∷ [])) (some []) none
+bytes_of [] = None
+bytes_of (c ∷ []) = cond (ends_of (c ∷ [])) (Some []) None
 bytes_of (c ∷ d ∷ s) =
-    cond (ends_of (c ∷ d ∷ s)) (some []) (cond (is_pair c d) (before (pair_of c d ∷ []) (bytes_of s)) none)
+    cond (ends_of (c ∷ d ∷ s)) (Some []) (before (pair_of (digit_of c) (digit_of d)) (bytes_of s))
 
 -- of a record's bytes: count, address, data, checksum
 abbrev pub address_of : List ℕ → ℕ
@@ -78,9 +78,9 @@ free w cs a = holds w a && leb 256 (get_or cs (a - w.start) 0)
 
 -- bytes entered one after another; none where one of them is not free
 unfoldable pub enter : Window → List ℕ → List Given → Option (List ℕ)
-enter w cs [] = some cs
+enter w cs [] = Some cs
 enter w cs (x ∷ g) =
-    cond (free w cs x.address) (enter w (set cs (x.address - w.start) x.byte) g) none
+    cond (free w cs x.address) (enter w (set cs (x.address - w.start) x.byte) g) None
 
 -- only S1 gives bytes
 abbrev pub given_by : ℕ → List ℕ → List Given
@@ -97,13 +97,13 @@ after p t = record { lines = p.lines + 1; s1 = p.s1 + one (eqb t 0x31); ended = 
 
 -- 27: a byte outside the code window, or given twice
 abbrev pub entered_as : FileProgress → ℕ → Option (List ℕ) → LineOutcome
-entered_as p t none = cause 27
-entered_as p t (some cs) = next (after p t) cs
+entered_as p t None = cause 27
+entered_as p t (Some cs) = next (after p t) cs
 
 -- a line's first two characters, and its bytes. 25: malformed, or after S9; 26: wrong checksum; then 27
 abbrev pub line_by : Window → FileProgress → List ℕ → ℕ → ℕ → Option (List ℕ) → LineOutcome
-line_by w p cs s t none = cause 25
-line_by w p cs s t (some bs) =
+line_by w p cs s t None = cause 25
+line_by w p cs s t (Some bs) =
     cond (not p.ended && (eqb s 0x53 && formed t p.s1 bs))
     (cond (eqb (sum bs % 256) 255) (entered_as p t (enter w cs (given_by t bs))) (cause 26)) (cause 25)
 

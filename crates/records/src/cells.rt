@@ -1,38 +1,40 @@
 // The image so far: a number for each byte of the code window, 256 where none is given. An inner module of the file's
-// reading, which has 4,096 of them.
+// reading.
 ghost use Rattle.std.specs.Prelude.{◌≡◌, true, ◌≤◌, ◌<◌, length};
 ghost use Rattle.records.specs.Record.{given_from};
-ghost use Rattle.records.specs.Read.{enter, all_given};
+ghost use Rattle.records.specs.Read.{blank_cells, enter, all_given};
 ghost use Rattle.records.specs.inner.Decoded.{entered};
 
 use commands::header::Window;
 
+// As many as a code window has bytes at most.
+pub type Cells = [u16; 4096];
+
+// None is given yet.
+pub fn blank() -> Cells
+    ensures { result ≡ blank_cells }
+{
+    [256; 4096]
+}
+
 // The bytes of an S1 line. Whether each lies in the code window and was not given before.
 #[tactic(auto, using(crate::proofs::Enter::below, crate::proofs::Enter::above, crate::proofs::Enter::twice, crate::proofs::Enter::entered_byte), unfolding(crate::specs::Read::enter))]
-pub fn enter(code: Window, address: usize, data: &[u8], cells: &mut [u16]) -> bool
-    requires { (code.length ≤ 4096) × (length cells.old ≡ 4096) × (address < 65536)
-        × (length «data».now ≤ 256) }
-    ensures { (entered result cells.new
-        ≡ enter code cells.old (given_from address «data».now))
-        × (length cells.new ≡ 4096) }
+pub fn enter(code: Window, address: usize, data: &[u8], cells: &mut Cells) -> bool
+    requires { (code.length ≤ 4096) × (address < 65536) × (length «data».now ≤ 256) }
+    ensures { entered result cells.new ≡ enter code cells.old (given_from address «data».now) }
 {
     let start = code.start as usize;
     let past = start + (code.length as usize);
-    let mut i = 0;
-    while i < data.len() {
+    for (i, byte) in data.iter().enumerate() {
         let a = address + i;
-        if a < start {
-            return false;
-        }
-        if past <= a {
+        if a < start || past <= a {
             return false;
         }
         let j = a - start;
         if cells[j] < 256 {
             return false;
         }
-        cells[j] = data[i] as u16;
-        i += 1;
+        cells[j] = u16::from(*byte);
     }
     true
 }
@@ -41,14 +43,7 @@ pub fn enter(code: Window, address: usize, data: &[u8], cells: &mut [u16]) -> bo
 pub fn all_given(cells: &[u16]) -> bool
     ensures { result ≡ all_given cells.now }
 {
-    let mut i = 0;
-    while i < cells.len() {
-        if 255 < cells[i] {
-            return false;
-        }
-        i += 1;
-    }
-    true
+    cells.iter().all(|c| *c < 256)
 }
 
 // The image, when each of its bytes is given.
@@ -57,9 +52,7 @@ pub fn copy(cells: &[u16], image: &mut [u8])
     requires { (length cells.now ≡ length image.old) × (all_given cells.now ≡ true) }
     ensures { image.new ≡ cells.now }
 {
-    let mut i = 0;
-    while i < image.len() {
-        image[i] = cells[i] as u8;
-        i += 1;
+    for (byte, cell) in image.iter_mut().zip(cells) {
+        *byte = *cell as u8;
     }
 }

@@ -4,9 +4,8 @@ ghost use Rattle.ticket.specs.Read.{refusal};
 ghost use Rattle.records.specs.Read.{blank_cells, line_number, file_of};
 ghost use Rattle.records.specs.inner.Decoded.{line_length, after_lines};
 
-use crate::answer::Loaded;
-use crate::cells::all_given;
-use crate::line::{LineAnswer, judge};
+use crate::cells::{Cells, all_given};
+use crate::line::judge;
 use crate::progress::FileProgress;
 use answers::{Refusal, refuse};
 use commands::header::Window;
@@ -16,14 +15,10 @@ use commands::header::Window;
 fn line_length(s: &[u8]) -> usize
     ensures { (result ≡ line_length s.now) × (result ≤ length s.now) }
 {
-    let mut i = 0;
-    while i < s.len() {
-        if s[i] == b'\n' {
-            return i + 1;
-        }
-        i += 1;
+    match s.iter().position(|b| *b == b'\n') {
+        Some(i) => i + 1,
+        None => s.len(),
     }
-    i
 }
 
 // A cause at the line after those so far, counted from 1.
@@ -35,7 +30,7 @@ fn refused_at(number: u8, p: FileProgress) -> Refusal
 }
 
 #[tactic(auto, using(crate::proofs::Course::begins, crate::proofs::Course::ends, crate::proofs::Course::line_fits, crate::proofs::Course::stops))]
-pub fn read_lines(code: Window, file: &[u8], cells: &mut [u16]) -> Loaded
+pub fn read_lines(code: Window, file: &[u8], cells: &mut Cells) -> Result<(), Refusal>
     requires { (code.length ≤ 4096) × (cells.old ≡ blank_cells) }
     ensures { after_lines code result cells.new ≡ file_of code file.now }
 {
@@ -44,22 +39,20 @@ pub fn read_lines(code: Window, file: &[u8], cells: &mut [u16]) -> Loaded
         s1: 0,
         ended: false,
     };
-    let mut at = 0;
-    while at < file.len() {
-        let rest = &file[at..];
-        let n = line_length(rest);
-        match judge(code, p, &rest[..n], cells) {
-            LineAnswer::Cause(number) => return Loaded::Refused(refused_at(number, p)),
-            LineAnswer::Next(q) => p = q,
+    let mut rest = file;
+    while !rest.is_empty() {
+        let (line, others) = rest.split_at(line_length(rest));
+        match judge(code, p, line, cells) {
+            Err(number) => return Err(refused_at(number, p)),
+            Ok(q) => p = q,
         }
-        at += n;
+        rest = others;
     }
     if !p.ended {
-        return Loaded::Refused(refused_at(25, p));
+        return Err(refused_at(25, p));
     }
-    let n = code.length as usize;
-    if !all_given(&cells[..n]) {
-        return Loaded::Refused(refuse(27, 0));
+    if !all_given(&cells[..code.length as usize]) {
+        return Err(refuse(27, 0));
     }
-    Loaded::Done
+    Ok(())
 }

@@ -5,37 +5,31 @@
 ghost use Rattle.std.specs.Prelude.{◌≡◌, ◌≤◌};
 ghost use Rattle.records.specs.Load.{after_load, load_of};
 
-use crate::answer::Loaded;
-use crate::cells::copy;
+use crate::cells::{blank, copy};
 use crate::file::read_lines;
-use answers::refuse;
+use answers::{Refusal, refuse};
 use commands::header::Window;
 
-pub mod answer; // what loading answers
 pub mod progress; // how far a file is read
 pub mod decode; // a line's digits as bytes
 mod record; // a record's count, type and checksum
-mod cells; // the image so far
+pub mod cells; // the image so far
 pub mod line; // one line
 mod file; // the lines, one by one
 
 // Fills the buffer with the image that the file names. Until the whole file is good and the buffer's length is the code
 // window's, the image is kept apart.
 #[tactic(auto, unfolding(crate::specs::Load::load_of))]
-pub fn load_image(code: Window, file: &[u8], image: &mut [u8]) -> Loaded
+pub fn load_image(code: Window, file: &[u8], image: &mut [u8]) -> Result<(), Refusal>
     requires { code.length ≤ 4096 }
     ensures { after_load result image.new ≡ load_of code file.now image.old }
 {
-    let mut cells = [256u16; 4096];
-    match read_lines(code, file, &mut cells) {
-        Loaded::Refused(x) => Loaded::Refused(x),
-        Loaded::Done => {
-            let n = code.length as usize;
-            if image.len() != n {
-                return Loaded::Refused(refuse(9, 0));
-            }
-            copy(&cells[..n], image);
-            Loaded::Done
-        }
+    let mut cells = blank();
+    read_lines(code, file, &mut cells)?;
+    let window = &cells[..code.length as usize];
+    if image.len() != window.len() {
+        return Err(refuse(9, 0));
     }
+    copy(window, image);
+    Ok(())
 }

@@ -7,7 +7,7 @@ pub fn address_of(bytes: &[u8]) -> usize
     requires { 4 ≤ length bytes.now }
     ensures { (result ≡ address_of bytes.now) × (result < 65536) }
 {
-    (bytes[1] as usize) * 256 + (bytes[2] as usize)
+    usize::from(bytes[1]) * 256 + usize::from(bytes[2])
 }
 
 // As many bytes as the count says, and as its type wants them, where s1 S1 lines come before it.
@@ -16,31 +16,21 @@ pub fn formed(t: u8, s1: usize, bytes: &[u8]) -> bool
     ensures { result ≡ formed t s1 bytes.now }
 {
     let n = bytes.len();
-    if n < 4 {
-        return false;
-    }
-    if (bytes[0] as usize) + 1 != n {
+    if n < 4 || usize::from(bytes[0]) + 1 != n {
         return false;
     }
     match t {
-        b'0' => true,
-        b'1' => true,
+        b'0' | b'1' => true,
         b'5' => (n == 4) & (address_of(bytes) == s1),
         b'9' => n == 4,
         _ => false,
     }
 }
 
-// The sum of the bytes, of which the last eight bits count.
+// The last eight bits of the bytes' sum.
 #[tactic(auto, using(crate::proofs::RecordBytes::sum_next, crate::proofs::RecordBytes::sum_all))]
-pub fn sum(bytes: &[u8]) -> u16
+pub fn sum(bytes: &[u8]) -> u8
     ensures { result ≡ sum bytes.now % 256 }
 {
-    let mut s: u16 = 0;
-    let mut i = 0;
-    while i < bytes.len() {
-        s = (s + (bytes[i] as u16)) % 256;
-        i += 1;
-    }
-    s
+    bytes.iter().fold(0, |s: u8, b| s.wrapping_add(*b))
 }
