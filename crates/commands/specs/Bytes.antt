@@ -1,13 +1,13 @@
 -- A command as bytes: its byte, then its operands by their widths (document 01, "The ticket"); and the command that
 -- some bytes begin with.
 -- Assumes nothing.
-use Rattle.std.specs.Prelude.{ℕ, ◌+◌, cond, List, [], ◌∷◌, ◌++◌, leb, length, take, drop}
+use Rattle.std.specs.Prelude.{ℕ, ◌+◌, cond, List, [], ◌∷◌, ◌++◌, leb, length, take, drop, Result, Ok, Err}
 use Rattle.commands.specs.Number.{number, digits}
 use Rattle.commands.specs.Rows.{CommandOperand, width_in, size_of, layout_of, known}
 use Rattle.commands.specs.Command.{command_byte_of, operands_of, command_with}
 use Rattle.commands.specs.declared.command.Command.{Command}
-use Rattle.commands.specs.declared.parse.ParsedCommand.{ParsedCommand}
-use Rattle.commands.specs.declared.parse.ParsedCommand.TheVariants.{Unknown, Cut, Found}
+use Rattle.commands.specs.declared.parse.ParseError.{ParseError}
+use Rattle.commands.specs.declared.parse.ParseError.TheVariants.{Unknown, Cut}
 
 -- some operands by the widths of a layout
 abbrev pub joined : List CommandOperand → List ℕ → List ℕ
@@ -30,7 +30,7 @@ unfoldable pub command_of : ℕ → List ℕ → Command
 command_of b s = command_with b (operands_in (layout_of b) s)
 
 -- an unknown byte comes before operands cut short (document 01's causes 1 and 2)
-unfoldable pub parse_of : List ℕ → ParsedCommand
-parse_of [] = Cut
+unfoldable pub parse_of : List ℕ → Result Command ParseError
+parse_of [] = Err Cut
 parse_of (b ∷ s) =
-    cond (known b) (cond (leb (size_of (layout_of b)) (length s)) (Found (command_of b s)) Cut) Unknown
+    cond (known b) (cond (leb (size_of (layout_of b)) (length s)) (Ok (command_of b s)) (Err Cut)) (Err Unknown)

@@ -1,13 +1,12 @@
 -- Why a command is refused after those before it: document 01's causes 3 to 7, in its table's order ("The ticket",
 -- "Where a ticket stops"), and document 02's 29, after the window checks (e).
 -- Assumes nothing.
-use Rattle.std.specs.Prelude.{ℕ, Bool, true, cond, not, ◌&&◌, ◌||◌, List, [], ◌∷◌, eqb, ltb, leb}
+use Rattle.std.specs.Prelude.{ℕ, Bool, true, cond, not, ◌&&◌, ◌||◌, List, [], ◌∷◌, eqb, ltb, leb, Option}
+use Rattle.std.specs.Prelude.{Some, None}
 use Rattle.commands.specs.Rows.{CommandOperand, in_range, row_of, layout_of, required_length}
 use Rattle.commands.specs.Command.{command_byte_of, stage_of, operands_of, window_of}
 use Rattle.commands.specs.Header.{past_of, holds}
 use Rattle.commands.specs.declared.header.Window.{Window}
-use Rattle.commands.specs.declared.row.WindowStart.{WindowStart}
-use Rattle.commands.specs.declared.row.WindowStart.TheVariants.{NoWindow, From}
 use Rattle.commands.specs.declared.command.HeaderCommand.{HeaderCommand}
 use Rattle.commands.specs.declared.command.HeaderCommand.TheVariants.{Code, Data, Stack, Entry, Home}
 use Rattle.commands.specs.declared.command.Command.{Command}
@@ -44,9 +43,9 @@ ranges_hold c = all_in_range (layout_of (command_byte_of c)) (operands_of c)
 abbrev pub edges_within : (least : ℕ) → Window → Bool
 edges_within least w = leb (past_of w) 65536 && leb least w.start
 
-abbrev pub edges_hold_for : WindowStart → Window → Bool
-edges_hold_for NoWindow w = true
-edges_hold_for (From least) w = edges_within least w
+abbrev pub edges_hold_for : Option ℕ → Window → Bool
+edges_hold_for None w = true
+edges_hold_for (Some least) w = edges_within least w
 
 abbrev pub edges_hold : Command → Bool
 edges_hold c = edges_hold_for (row_of (command_byte_of c)).window (window_of (operands_of c))
@@ -60,9 +59,9 @@ apart v w =
 abbrev pub apart_from : Header → Window → Bool
 apart_from h w = apart h.code w && (apart h.«data» w && apart h.stack w)
 
-abbrev pub separate_for : WindowStart → Header → Window → Bool
-separate_for NoWindow h w = true
-separate_for (From least) h w = apart_from h w
+abbrev pub separate_for : Option ℕ → Header → Window → Bool
+separate_for None h w = true
+separate_for (Some least) h w = apart_from h w
 
 abbrev pub separate : Header → Command → Bool
 separate h c = separate_for (row_of (command_byte_of c)).window h (window_of (operands_of c))

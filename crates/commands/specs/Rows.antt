@@ -1,10 +1,8 @@
 -- The table of commands: their order, which are windows, and their operands with widths and ranges (document 01, "The
 -- ticket"; document 02, e, of $07).
 -- Assumes nothing.
-use Rattle.std.specs.Prelude.{ℕ, ◌+◌, Bool, true, ◌&&◌, List, [], ◌∷◌, ltb, leb, get_or, length}
+use Rattle.std.specs.Prelude.{ℕ, ◌+◌, Bool, true, ◌&&◌, List, [], ◌∷◌, ltb, leb, get_or, length, Option, Some, None}
 use Rattle.commands.specs.Number.{digits}
-use Rattle.commands.specs.declared.row.WindowStart.{WindowStart}
-use Rattle.commands.specs.declared.row.WindowStart.TheVariants.{NoWindow, From}
 
 -- an operand: its width, and its range if it has one
 pub data CommandOperand : Type 0 where
@@ -40,36 +38,36 @@ in_range (text w) v = printable (digits w v)
 -- which that window may start
 pub record CommandRow : Type 0 where
   pub stage : ℕ
-  pub window : WindowStart
+  pub window : Option ℕ
   pub operands : List CommandOperand
 
 -- by the command's byte
 abbrev pub command_rows : List CommandRow
 command_rows =
     -- $00 end
-    record { stage = 5; window = NoWindow; operands = [] }
+    record { stage = 5; window = None; operands = [] }
     -- $01 code window: start, length
-    ∷ record { stage = 0; window = From 1; operands = any 2 ∷ within 2 1 4096 ∷ [] }
+    ∷ record { stage = 0; window = Some 1; operands = any 2 ∷ within 2 1 4096 ∷ [] }
     -- $02 data window: start, length
-    ∷ record { stage = 1; window = From 0; operands = any 2 ∷ within 2 0 8192 ∷ [] }
+    ∷ record { stage = 1; window = Some 0; operands = any 2 ∷ within 2 0 8192 ∷ [] }
     -- $03 stack window: start, length
-    ∷ record { stage = 2; window = From 1; operands = any 2 ∷ within 2 2 1024 ∷ [] }
+    ∷ record { stage = 2; window = Some 1; operands = any 2 ∷ within 2 2 1024 ∷ [] }
     -- $04 entry: address, cycle limit
-    ∷ record { stage = 3; window = NoWindow; operands = any 2 ∷ within 4 1 2000000 ∷ [] }
+    ∷ record { stage = 3; window = None; operands = any 2 ∷ within 4 1 2000000 ∷ [] }
     -- $05 mark: address, cost, depth, need
     ∷ record {
       stage = 5;
-      window = NoWindow;
+      window = None;
       operands = any 2 ∷ within 4 0 2000000 ∷ within 2 0 1022 ∷ within 2 0 1022 ∷ [];
     }
     -- $06 name: address, text
-    ∷ record { stage = 5; window = NoWindow; operands = any 2 ∷ text 8 ∷ [] }
+    ∷ record { stage = 5; window = None; operands = any 2 ∷ text 8 ∷ [] }
     -- $07 home: address
-    ∷ record { stage = 4; window = NoWindow; operands = any 2 ∷ [] }
+    ∷ record { stage = 4; window = None; operands = any 2 ∷ [] }
     ∷ []
 
 abbrev pub row_of : ℕ → CommandRow
-row_of b = get_or command_rows b (record { stage = 0; window = NoWindow; operands = [] })
+row_of b = get_or command_rows b (record { stage = 0; window = None; operands = [] })
 
 -- the operands of the command with a byte
 abbrev pub layout_of : ℕ → List CommandOperand

@@ -10,17 +10,16 @@ ghost use Rattle.commands.specs.inner.WindowCause.{window_cause_of};
 use crate::command::{Command, HeaderCommand, byte_of, operands_of, window};
 use crate::header::{Header, Window, holds, past};
 use crate::progress::Progress;
-use crate::row::{REQUIRED_COMMANDS, TableOperand, WindowStart, row_of};
+use crate::row::{REQUIRED_COMMANDS, TableOperand, row_of};
 
 // Marks rise; a name stands at once after its mark.
 fn follows(p: Progress, c: Command) -> bool
     ensures { result ≡ follows p c }
 {
     match c {
-        Command::Header(_) => true,
         Command::Mark(a, _) => (p.count == 0) | (p.last < a),
         Command::Name(a, _) => p.nameable & (a == p.last),
-        Command::End => true,
+        Command::Header(_) | Command::End => true,
     }
 }
 
@@ -76,12 +75,9 @@ fn ranges_hold(c: Command) -> bool
 {
     let v = operands_of(c);
     let row = row_of(byte_of(c));
-    let first = row.first;
-    let second = row.second;
-    let third = row.third;
-    let fourth = row.fourth;
-    in_range(first, v.first)
-        & (in_range(second, v.second) & (in_range(third, v.third) & in_range(fourth, v.fourth)))
+    in_range(row.first, v.first)
+        & (in_range(row.second, v.second)
+            & (in_range(row.third, v.third) & in_range(row.fourth, v.fourth)))
 }
 
 fn edges_within(w: Window, least: u16) -> bool
@@ -101,66 +97,53 @@ fn apart(v: Window, w: Window) -> bool
 fn apart_from(h: Header, w: Window) -> bool
     ensures { result ≡ apart_from h w }
 {
-    let code = h.code;
-    let data = h.data;
-    let stack = h.stack;
-    apart(code, w) & (apart(data, w) & apart(stack, w))
+    apart(h.code, w) & (apart(h.data, w) & apart(h.stack, w))
 }
 
 // 5 or 6 of a window, or 0.
 fn window_cause(h: Header, c: Command) -> u8
     ensures { result ≡ window_cause_of h c }
 {
-    let row = row_of(byte_of(c));
-    let start = row.window;
-    match start {
-        WindowStart::NoWindow => 0,
-        WindowStart::From(least) => {
-            let w = window(operands_of(c));
-            if !edges_within(w, least) {
-                return 5;
-            }
-            if !apart_from(h, w) {
-                return 6;
-            }
-            0
-        }
+    let Some(least) = row_of(byte_of(c)).window else {
+        return 0;
+    };
+    let w = window(operands_of(c));
+    if !edges_within(w, least) {
+        return 5;
     }
+    if !apart_from(h, w) {
+        return 6;
+    }
+    0
 }
 
 fn header_home_outside(code: Window, c: HeaderCommand) -> bool
     ensures { result ≡ header_home_outside code c }
 {
     match c {
-        HeaderCommand::Code(_) => true,
-        HeaderCommand::Data(_) => true,
-        HeaderCommand::Stack(_) => true,
-        HeaderCommand::Entry(_, _) => true,
         HeaderCommand::Home(a) => !holds(code, a),
+        HeaderCommand::Code(_)
+        | HeaderCommand::Data(_)
+        | HeaderCommand::Stack(_)
+        | HeaderCommand::Entry(_, _) => true,
     }
 }
 
 fn home_outside(h: Header, c: Command) -> bool
     ensures { result ≡ home_outside h c }
 {
-    let code = h.code;
     match c {
-        Command::Header(part) => header_home_outside(code, part),
-        Command::Mark(_, _) => true,
-        Command::Name(_, _) => true,
-        Command::End => true,
+        Command::Header(part) => header_home_outside(h.code, part),
+        Command::Mark(_, _) | Command::Name(_, _) | Command::End => true,
     }
 }
 
 fn inside(h: Header, c: Command) -> bool
     ensures { result ≡ inside h c }
 {
-    let code = h.code;
     match c {
-        Command::Header(_) => true,
-        Command::Mark(a, _) => holds(code, a),
-        Command::Name(_, _) => true,
-        Command::End => true,
+        Command::Mark(a, _) => holds(h.code, a),
+        Command::Header(_) | Command::Name(_, _) | Command::End => true,
     }
 }
 
@@ -168,21 +151,20 @@ fn inside(h: Header, c: Command) -> bool
 pub fn cause(p: Progress, c: Command) -> u8
     ensures { result ≡ command_cause_of p c }
 {
-    let h = p.header;
     if !in_order(p, c) {
         return 3;
     }
     if !ranges_hold(c) {
         return 4;
     }
-    let number = window_cause(h, c);
+    let number = window_cause(p.header, c);
     if number != 0 {
         return number;
     }
-    if !home_outside(h, c) {
+    if !home_outside(p.header, c) {
         return 29;
     }
-    if !inside(h, c) {
+    if !inside(p.header, c) {
         return 7;
     }
     0

@@ -88,9 +88,8 @@ fn header_operands(c: HeaderCommand) -> Operands
     ensures { (result ≡ code_values (header_operands_of c)) × FitsCode (code_row (row_of (header_byte_of c))) result }
 {
     match c {
-        HeaderCommand::Code(w) => window_operands(w),
-        HeaderCommand::Data(w) => window_operands(w),
-        HeaderCommand::Stack(w) => window_operands(w),
+        HeaderCommand::Code(w) | HeaderCommand::Data(w) | HeaderCommand::Stack(w) =>
+            window_operands(w),
         HeaderCommand::Entry(a, l) => pair(a as u64, l.0 as u64),
         HeaderCommand::Home(a) => pair(a as u64, 0),
     }
@@ -103,17 +102,12 @@ pub fn operands_of(c: Command) -> Operands
     match c {
         Command::End => pair(0, 0),
         Command::Header(part) => header_operands(part),
-        Command::Mark(a, k) => {
-            let cost = k.cost;
-            let depth = k.depth;
-            let need = k.need;
-            Operands {
-                first: a as u64,
-                second: cost.0 as u64,
-                third: depth.0 as u64,
-                fourth: need.0 as u64,
-            }
-        }
+        Command::Mark(a, k) => Operands {
+            first: a as u64,
+            second: k.cost.0 as u64,
+            third: k.depth.0 as u64,
+            fourth: k.need.0 as u64,
+        },
         Command::Name(a, t) => pair(a as u64, t),
     }
 }

@@ -22,13 +22,9 @@ pub fn put_command(c: Command, out: &mut [u8], at: usize) -> usize
     let b = byte_of(c);
     let v = operands_of(c);
     let row = row_of(b);
-    let first = row.first;
-    let second = row.second;
-    let third = row.third;
-    let fourth = row.fourth;
     out[at] = b;
-    let to_second = put_number(v.first, first.width, out, at + 1);
-    let to_third = put_number(v.second, second.width, out, to_second);
-    let to_fourth = put_number(v.third, third.width, out, to_third);
-    put_number(v.fourth, fourth.width, out, to_fourth)
+    let to_second = put_number(v.first, row.first.width, out, at + 1);
+    let to_third = put_number(v.second, row.second.width, out, to_second);
+    let to_fourth = put_number(v.third, row.third.width, out, to_third);
+    put_number(v.fourth, row.fourth.width, out, to_fourth)
 }

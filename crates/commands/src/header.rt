@@ -1,8 +1,8 @@
 // The header of a ticket: its three windows, its entry and its cycle limit (document 01, "The ticket", $01 to $04), and
 // home (document 02, e, $07); what a command states of it, and the commands that state all of it.
-ghost use Rattle.std.specs.Prelude.{◌≡◌, ◌<◌, get_or};
-ghost use Rattle.commands.specs.Rows.{header_length};
+ghost use Rattle.std.specs.Prelude.{◌≡◌};
 ghost use Rattle.commands.specs.Header.{past_of, holds, header_with, header_commands};
+ghost use Rattle.commands.specs.Every.{Every};
 ghost use Rattle.commands.specs.Fits.{Fits};
 
 use crate::command::{Command, HeaderCommand};
@@ -26,20 +26,18 @@ pub struct Header {
     pub home: u16,
 }
 
+impl Window {
+    pub const EMPTY: Window = Window {
+        start: 0,
+        length: 0,
+    };
+}
+
 impl Header {
     pub const BLANK: Header = Header {
-        code: Window {
-            start: 0,
-            length: 0,
-        },
-        data: Window {
-            start: 0,
-            length: 0,
-        },
-        stack: Window {
-            start: 0,
-            length: 0,
-        },
+        code: Window::EMPTY,
+        data: Window::EMPTY,
+        stack: Window::EMPTY,
         entry: 0,
         limit: Cycles(0),
         home: 0,
@@ -64,34 +62,24 @@ pub fn holds(w: Window, a: u16) -> bool
 pub fn header_with(h: Header, c: HeaderCommand) -> Header
     ensures { result ≡ header_with h c }
 {
-    let mut after = h;
     match c {
-        HeaderCommand::Code(w) => after.code = w,
-        HeaderCommand::Data(w) => after.data = w,
-        HeaderCommand::Stack(w) => after.stack = w,
-        HeaderCommand::Entry(a, l) => {
-            after.entry = a;
-            after.limit = l;
-        }
-        HeaderCommand::Home(a) => after.home = a,
+        HeaderCommand::Code(code) => Header { code, ..h },
+        HeaderCommand::Data(data) => Header { data, ..h },
+        HeaderCommand::Stack(stack) => Header { stack, ..h },
+        HeaderCommand::Entry(entry, limit) => Header { entry, limit, ..h },
+        HeaderCommand::Home(home) => Header { home, ..h },
     }
-    after
 }
 
-// The command that states a part of a header, by its stage.
-pub fn header_command(h: Header, stage: u8) -> Command
-    requires { stage < header_length }
-    ensures { (result ≡ get_or (header_commands h) stage Command.End) × Fits result }
+// The commands that state a header, in their order.
+pub fn header_commands(h: Header) -> [Command; 5]
+    ensures { (result ≡ header_commands h) × Every Fits result }
 {
-    let code = h.code;
-    let data = h.data;
-    let stack = h.stack;
-    let limit = h.limit;
-    match stage {
-        0 => Command::Header(HeaderCommand::Code(code)),
-        1 => Command::Header(HeaderCommand::Data(data)),
-        2 => Command::Header(HeaderCommand::Stack(stack)),
-        3 => Command::Header(HeaderCommand::Entry(h.entry, limit)),
-        _ => Command::Header(HeaderCommand::Home(h.home)), // 4
-    }
+    [
+        Command::Header(HeaderCommand::Code(h.code)),
+        Command::Header(HeaderCommand::Data(h.data)),
+        Command::Header(HeaderCommand::Stack(h.stack)),
+        Command::Header(HeaderCommand::Entry(h.entry, h.limit)),
+        Command::Header(HeaderCommand::Home(h.home)),
+    ]
 }

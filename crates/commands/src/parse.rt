@@ -7,12 +7,11 @@ use crate::command::{Command, Operands, command_with};
 use crate::number::number;
 use crate::row::{COMMANDS, TableRow, row_of, size};
 
-// What bytes begin with.
+// Why bytes begin with no command.
 #[derive(Clone, Copy)]
-pub enum ParsedCommand {
+pub enum ParseError {
     Unknown, // no command has this byte
     Cut, // no byte is left, or the operands are cut short
-    Found(Command),
 }
 
 // The operands of a row that bytes begin with.
@@ -20,34 +19,30 @@ fn operands_in(row: TableRow, s: &[u8]) -> Operands
     requires { Widths row × (code_size row ≤ length s.now) × (code_size row ≤ 10) }
     ensures { (result ≡ values_in row s.now) × FitsCode row result }
 {
-    let first = row.first;
-    let second = row.second;
-    let third = row.third;
-    let fourth = row.fourth;
-    let to_second = first.width;
-    let to_third = to_second + second.width;
-    let to_fourth = to_third + third.width;
+    let to_second = row.first.width;
+    let to_third = to_second + row.second.width;
+    let to_fourth = to_third + row.third.width;
     Operands {
-        first: number(s, 0, first.width),
-        second: number(s, to_second, second.width),
-        third: number(s, to_third, third.width),
-        fourth: number(s, to_fourth, fourth.width),
+        first: number(s, 0, row.first.width),
+        second: number(s, to_second, row.second.width),
+        third: number(s, to_third, row.third.width),
+        fourth: number(s, to_fourth, row.fourth.width),
     }
 }
 
-pub fn parse(s: &[u8]) -> ParsedCommand
+pub fn parse(s: &[u8]) -> Result<Command, ParseError>
     ensures { result ≡ parse_of s.now }
 {
     if s.len() == 0 {
-        return ParsedCommand::Cut;
+        return Err(ParseError::Cut);
     }
     let b = s[0];
     if COMMANDS <= b {
-        return ParsedCommand::Unknown;
+        return Err(ParseError::Unknown);
     }
     let row = row_of(b);
     if s.len() - 1 < size(row) {
-        return ParsedCommand::Cut;
+        return Err(ParseError::Cut);
     }
-    ParsedCommand::Found(command_with(b, operands_in(row, &s[1..])))
+    Ok(command_with(b, operands_in(row, &s[1..])))
 }

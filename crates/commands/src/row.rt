@@ -13,18 +13,11 @@ pub struct TableOperand {
     pub text: bool,
 }
 
-// Whether the first two operands are a window's start and length; if so, the least address at which it may start.
-#[derive(Clone, Copy)]
-pub enum WindowStart {
-    NoWindow,
-    From(u16),
-}
-
 // A command has at most four operands; those that it lacks have no bytes.
 #[derive(Clone, Copy)]
 pub struct TableRow {
     pub stage: u8, // its place in the sequence of the header's commands
-    pub window: WindowStart,
+    pub window: Option<u16>, // of a window, whose start and length are its first two operands: its least start
     pub first: TableOperand,
     pub second: TableOperand,
     pub third: TableOperand,
@@ -109,35 +102,35 @@ pub fn row_of(b: u8) -> TableRow
 {
     match b {
         0x00 => TableRow { // end
-            stage: HEADER_COMMANDS, window: WindowStart::NoWindow,
+            stage: HEADER_COMMANDS, window: None,
             first: ABSENT, second: ABSENT, third: ABSENT, fourth: ABSENT,
         },
         0x01 => TableRow { // code window
-            stage: 0, window: WindowStart::From(1),
+            stage: 0, window: Some(1),
             first: ADDRESS, second: CODE_LENGTH, third: ABSENT, fourth: ABSENT,
         },
         0x02 => TableRow { // data window
-            stage: 1, window: WindowStart::From(0),
+            stage: 1, window: Some(0),
             first: ADDRESS, second: DATA_LENGTH, third: ABSENT, fourth: ABSENT,
         },
         0x03 => TableRow { // stack window
-            stage: 2, window: WindowStart::From(1),
+            stage: 2, window: Some(1),
             first: ADDRESS, second: STACK_LENGTH, third: ABSENT, fourth: ABSENT,
         },
         0x04 => TableRow { // entry
-            stage: 3, window: WindowStart::NoWindow,
+            stage: 3, window: None,
             first: ADDRESS, second: LIMIT, third: ABSENT, fourth: ABSENT,
         },
         0x05 => TableRow { // mark
-            stage: HEADER_COMMANDS, window: WindowStart::NoWindow,
+            stage: HEADER_COMMANDS, window: None,
             first: ADDRESS, second: COST, third: STACK_BYTES, fourth: STACK_BYTES,
         },
         0x06 => TableRow { // name
-            stage: HEADER_COMMANDS, window: WindowStart::NoWindow,
+            stage: HEADER_COMMANDS, window: None,
             first: ADDRESS, second: TEXT, third: ABSENT, fourth: ABSENT,
         },
         _ => TableRow { // $07 home
-            stage: REQUIRED_COMMANDS, window: WindowStart::NoWindow,
+            stage: REQUIRED_COMMANDS, window: None,
             first: ADDRESS, second: ABSENT, third: ABSENT, fourth: ABSENT,
         },
     }
@@ -148,9 +141,5 @@ pub fn size(row: TableRow) -> usize
     requires { code_size row ≤ 10 }
     ensures { result ≡ code_size row }
 {
-    let first = row.first;
-    let second = row.second;
-    let third = row.third;
-    let fourth = row.fourth;
-    first.width + second.width + third.width + fourth.width
+    row.first.width + row.second.width + row.third.width + row.fourth.width
 }

@@ -1,15 +1,13 @@
 -- The fields of a ticket as a header and a list of marks, and as the code's array holds them (document 01, "The
 -- ticket").
 -- Assumes nothing.
-use Rattle.std.specs.Prelude.{ℕ, zero, suc, ◌-◌, cond, List, [], ◌∷◌, ◌++◌, ltb, length, get_or, replicate}
+use Rattle.std.specs.Prelude.{ℕ, zero, suc, ◌-◌, cond, List, [], ◌∷◌, ◌++◌, ltb, length, get_or, replicate, Result}
+use Rattle.std.specs.Prelude.{Ok, Err}
 use Rattle.commands.specs.declared.command.Command.{Command}
 use Rattle.answers.specs.declared.Refusal.{Refusal}
 use Rattle.commands.specs.declared.header.Header.{Header}
-use Rattle.commands.specs.Header.{blank_header}
 use Rattle.ticket.specs.declared.fields.Mark.{Mark}
 use Rattle.ticket.specs.declared.fields.Ticket.{Ticket}
-use Rattle.ticket.specs.declared.answer.ReadAnswer.{ReadAnswer}
-use Rattle.ticket.specs.declared.answer.Reading.{Reading}
 
 pub record Fields : Type 0 where
   pub header : Header
@@ -47,12 +45,9 @@ ticket_of f =
       marks = f.marks ++ replicate (4096 - length f.marks) blank_mark;
     }
 
-abbrev pub no_fields : Fields
-no_fields = record { header = blank_header; marks = [] }
-
-abbrev pub reading_of : ReadOutcome → Reading
-reading_of (read f) = record { answer = ReadAnswer.Read; ticket = ticket_of f }
-reading_of (refused r) = record { answer = ReadAnswer.Refused r; ticket = ticket_of no_fields }
+abbrev pub reading_of : ReadOutcome → Result Ticket Refusal
+reading_of (read f) = Ok (ticket_of f)
+reading_of (refused r) = Err r
 
 -- Where entry i of the marks stands. Document 01 leaves a count above 4,096 free: past the array's end its last entry
 -- stands again, so that the writer refuses the 4,097th mark with 3, as one that does not rise.

@@ -2,9 +2,9 @@
 -- them). What is said here of bytes is meant of tickets that are read, which are commands to the last byte.
 -- Assumes nothing.
 use Rattle.std.specs.Prelude.{ℕ, zero, suc, ◌≡◌, Bool, true, false, cond, not, ◌&&◌, List, [], ◌∷◌, length, drop}
+use Rattle.std.specs.Prelude.{Result, Ok, Err}
 use Rattle.commands.specs.declared.command.Command.{Command}
-use Rattle.commands.specs.declared.parse.ParsedCommand.{ParsedCommand}
-use Rattle.commands.specs.declared.parse.ParsedCommand.TheVariants.{Unknown, Cut, Found}
+use Rattle.commands.specs.declared.parse.ParseError.{ParseError}
 use Rattle.commands.specs.Bytes.{parse_of, width_of}
 use Rattle.ticket.specs.Fields.{Fields, read}
 use Rattle.ticket.specs.Read.{read_of}
@@ -12,10 +12,9 @@ use Rattle.ticket.specs.Write.{encode_all}
 use Rattle.ticket.specs.Spells.{carries_home}
 
 -- a command and those after it, as far as bytes begin with one
-abbrev pub command_then : ParsedCommand → List ℕ → (List ℕ → List Command) → List Command
-command_then Unknown s rest = []
-command_then Cut s rest = []
-command_then (Found c) s rest = c ∷ rest (drop (width_of c) s)
+abbrev pub command_then : Result Command ParseError → List ℕ → (List ℕ → List Command) → List Command
+command_then (Err e) s rest = []
+command_then (Ok c) s rest = c ∷ rest (drop (width_of c) s)
 
 -- at most n of them
 abbrev pub commands_from : ℕ → List ℕ → List Command

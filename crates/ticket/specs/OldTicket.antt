@@ -2,12 +2,11 @@
 -- $0000 put in after its entry (document 02, e: tickets without it still mean $0000); and one with names, without them
 -- (document 02, i: the reader checks and then drops them).
 -- Assumes nothing.
-use Rattle.std.specs.Prelude.{ℕ, ◌+◌, ◌*◌, ◌≡◌, false, cond, List, [], ◌∷◌, ◌++◌, eqb, ltb, length, get_or}
+use Rattle.std.specs.Prelude.{ℕ, ◌+◌, ◌*◌, ◌≡◌, false, cond, List, [], ◌∷◌, ◌++◌, eqb, ltb, length, get_or, Ok}
 use Rattle.answers.specs.declared.Refusal.{Refusal}
 use Rattle.commands.specs.declared.header.Header.{Header}
 use Rattle.commands.specs.declared.command.Command.{Command}
 use Rattle.commands.specs.declared.progress.Progress.{Progress}
-use Rattle.commands.specs.declared.admit.Admitted.TheVariants.{Next}
 use Rattle.commands.specs.Header.{required_commands}
 use Rattle.commands.specs.Progress.{initial_progress}
 use Rattle.ticket.specs.Fields.{ReadOutcome, read, refused}
@@ -53,7 +52,7 @@ names_among (c ∷ cs) = cond (is_name c) (1 + names_among cs) (names_among cs)
 -- stands 11 bytes later for each name.
 abbrev pub ReadWithNames : Type 0
 ReadWithNames =
-    (cs : List Command) (p : Progress) (rest : List ℕ) → AllFit cs → all_then (Next initial_progress) cs ≡ Next p
+    (cs : List Command) (p : Progress) (rest : List ℕ) → AllFit cs → all_then (Ok initial_progress) cs ≡ Ok p
     → eqb (get_or rest 0 0) 0x06 ≡ false
     → let bare = encode_all (names_dropped cs) in
     read_of (encode_all cs ++ rest) ≡ moved (length bare) (11 * names_among cs) (read_of (bare ++ rest))

@@ -1,32 +1,35 @@
 -- The reading of bytes: commands in file order, of each the causes in document 01's order; the first failure is the
 -- answer ("Where a ticket stops", reading).
 -- Assumes nothing.
-use Rattle.std.specs.Prelude.{ℕ, zero, suc, Bool, true, false, List, [], ◌∷◌, length, drop}
+use Rattle.std.specs.Prelude.{ℕ, zero, suc, Bool, true, false, List, [], ◌∷◌, length, drop, Result}
+use Rattle.std.specs.Prelude.{Ok, Err}
 use Rattle.commands.specs.declared.command.Command.{Command}
 use Rattle.answers.specs.declared.Refusal.{Refusal}
-use Rattle.commands.specs.declared.parse.ParsedCommand.{ParsedCommand}
-use Rattle.commands.specs.declared.parse.ParsedCommand.TheVariants.{Unknown, Cut, Found}
+use Rattle.commands.specs.declared.parse.ParseError.{ParseError}
+use Rattle.commands.specs.declared.parse.ParseError.TheVariants.{Unknown, Cut}
 use Rattle.commands.specs.declared.progress.Progress.{Progress}
-use Rattle.commands.specs.declared.admit.Admitted.{Admitted}
 use Rattle.commands.specs.Bytes.{parse_of, width_of}
 use Rattle.commands.specs.Progress.{initial_progress, ended}
 use Rattle.commands.specs.Admit.{admit_of}
 use Rattle.ticket.specs.declared.fields.Mark.{Mark}
-use Rattle.ticket.specs.declared.reader.NextCommand.{NextCommand}
 use Rattle.ticket.specs.Fields.{ReadOutcome, read, refused, marks_with, in_file_order}
 
 abbrev pub refusal : ℕ → ℕ → Refusal
 refusal n p = record { number = n; place = p }
 
-abbrev pub admitted_as : Admitted → Command → NextCommand
-admitted_as (Admitted.Refused r) c = NextCommand.Refused r
-admitted_as (Admitted.Next q) c = NextCommand.Next q c
+-- a command that is read, with what it leaves for the next, or why none is
+abbrev pub NextCommand : Type 0
+NextCommand = Result (Progress × Command) Refusal
+
+abbrev pub admitted_as : Result Progress Refusal → Command → NextCommand
+admitted_as (Err r) c = Err r
+admitted_as (Ok q) c = Ok (q, c)
 
 -- 1: unknown command byte; 2: no command byte left, or operands cut short; then 3 to 7 and 29
-abbrev pub parsed_as : ParsedCommand → Progress → NextCommand
-parsed_as Unknown p = NextCommand.Refused (refusal 1 p.at)
-parsed_as Cut p = NextCommand.Refused (refusal 2 p.at)
-parsed_as (Found c) p = admitted_as (admit_of p c) c
+abbrev pub parsed_as : Result Command ParseError → Progress → NextCommand
+parsed_as (Err Unknown) p = Err (refusal 1 p.at)
+parsed_as (Err Cut) p = Err (refusal 2 p.at)
+parsed_as (Ok c) p = admitted_as (admit_of p c) c
 
 -- the command that the bytes left begin with
 unfoldable pub next_command_of : List ℕ → Progress → NextCommand
@@ -42,8 +45,8 @@ abbrev pub ReadRest : Type 0
 ReadRest = Progress → List Mark → List ℕ → ReadOutcome
 
 abbrev pub read_onward : NextCommand → List Mark → List ℕ → ReadRest → ReadOutcome
-read_onward (NextCommand.Refused r) ms s f = refused r
-read_onward (NextCommand.Next q c) ms s f = f q (marks_with ms c) (drop (width_of c) s)
+read_onward (Err r) ms s f = refused r
+read_onward (Ok (q, c)) ms s f = f q (marks_with ms c) (drop (width_of c) s)
 
 abbrev pub if_ended : Bool → Progress → List Mark → List ℕ → ReadRest → ReadOutcome
 if_ended true p ms s f = end_of p ms s

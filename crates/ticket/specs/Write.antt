@@ -2,16 +2,15 @@
 -- command would have, then 24 with the bytes needed (document 01, "The ticket", "Where a ticket stops"). The writer
 -- always writes home (document 02, e), and no name (document 02, i).
 -- Assumes nothing.
-use Rattle.std.specs.Prelude.{ℕ, cond, List, [], ◌∷◌, ◌++◌, leb, length, drop}
+use Rattle.std.specs.Prelude.{ℕ, cond, List, [], ◌∷◌, ◌++◌, leb, length, drop, Result, Ok, Err}
 use Rattle.commands.specs.declared.command.Command.{Command}
-use Rattle.commands.specs.declared.admit.Admitted.{Admitted}
-use Rattle.commands.specs.declared.admit.Admitted.TheVariants.{Refused, Next}
+use Rattle.commands.specs.declared.progress.Progress.{Progress}
+use Rattle.answers.specs.declared.Refusal.{Refusal}
 use Rattle.commands.specs.Header.{header_commands}
 use Rattle.commands.specs.Bytes.{encode_of}
 use Rattle.commands.specs.Progress.{initial_progress}
 use Rattle.commands.specs.Admit.{then_of}
 use Rattle.ticket.specs.declared.fields.Mark.{Mark}
-use Rattle.ticket.specs.declared.answer.Written.{Written}
 use Rattle.ticket.specs.Fields.{Fields}
 
 abbrev pub mark_command : Mark → Command
@@ -33,24 +32,24 @@ unfoldable pub bytes_of : Fields → List ℕ
 bytes_of f = encode_all (commands_of f)
 
 -- some commands one after another; what comes after a refused one is not looked at
-abbrev pub all_then : Admitted → List Command → Admitted
+abbrev pub all_then : Result Progress Refusal → List Command → Result Progress Refusal
 all_then a [] = a
 all_then a (c ∷ cs) = all_then (then_of a c) cs
 
-unfoldable pub check_of : Fields → Admitted
-check_of f = all_then (Next initial_progress) (commands_of f)
+unfoldable pub check_of : Fields → Result Progress Refusal
+check_of f = all_then (Ok initial_progress) (commands_of f)
 
 -- n bytes are needed
-abbrev pub written_if : Admitted → ℕ → ℕ → Written
-written_if (Refused r) n room = Written.Refused r
-written_if (Next p) n room = cond (leb n room) (Written.Length n) (Written.Refused (record { number = 24; place = n }))
+abbrev pub written_if : Result Progress Refusal → ℕ → ℕ → Result ℕ Refusal
+written_if (Err r) n room = Err r
+written_if (Ok p) n room = cond (leb n room) (Ok n) (Err (record { number = 24; place = n }))
 
-unfoldable pub write_of : Fields → ℕ → Written
+unfoldable pub write_of : Fields → ℕ → Result ℕ Refusal
 write_of f room = written_if (check_of f) (length (bytes_of f)) room
 
-abbrev pub output_if : Written → Fields → List ℕ → List ℕ
-output_if (Written.Length n) f out = bytes_of f ++ drop n out
-output_if (Written.Refused r) f out = out
+abbrev pub output_if : Result ℕ Refusal → Fields → List ℕ → List ℕ
+output_if (Ok n) f out = bytes_of f ++ drop n out
+output_if (Err r) f out = out
 
 -- the output afterwards: the ticket's bytes and then what was there, or all as before
 unfoldable pub output_of : Fields → List ℕ → List ℕ

@@ -10,15 +10,12 @@ ghost use Rattle.ticket.specs.Fields.{fields_of, reading_of};
 ghost use Rattle.ticket.specs.RoundTrip.{answered, SameBytes};
 ghost use Rattle.ticket.specs.Names.{NamesIgnored};
 
-use crate::answer::{ReadAnswer, Reading, Written};
 use crate::fields::{Ticket, blank};
-use crate::reader::{NextCommand, entered, latest_index, next_command, refused};
+use crate::reader::{entered, latest_index, next_command};
 use crate::writer::{check, put};
-use answers::refuse;
-use commands::admit::Admitted;
+use answers::{Refusal, refuse};
 use commands::progress::{ended, initial};
 
-pub mod answer; // what reading and writing answer
 pub mod fields; // the ticket and its marks
 mod reader; // a command at a time
 mod writer; // checks first, then the bytes
@@ -26,7 +23,7 @@ mod writer; // checks first, then the bytes
 // The ticket that some bytes are, or the first failure in file order. Names are checked and dropped: taken out of the
 // bytes, they change nothing of what is read. Written again, a ticket that carries home and no name has the same bytes;
 // one without home gains home $0000, and one with names loses them.
-pub fn read(bytes: &[u8]) -> Reading
+pub fn read(bytes: &[u8]) -> Result<Ticket, Refusal>
     ensures { (result ≡ reading_of (read_of bytes.now))
         × ReadByTheRules bytes.now
         × SameBytes bytes.now result
@@ -35,47 +32,33 @@ pub fn read(bytes: &[u8]) -> Reading
     let mut marks = [blank(); 4096];
     let mut p = initial();
     while !ended(p) {
-        match next_command(bytes, p) {
-            NextCommand::Refused(r) => return refused(r),
-            NextCommand::Next(q, c) => {
-                let i = latest_index(q.count);
-                let m = marks[i];
-                marks[i] = entered(m, c);
-                p = q;
-            }
-        }
+        let (q, c) = next_command(bytes, p)?;
+        let i = latest_index(q.count);
+        marks[i] = entered(marks[i], c);
+        p = q;
     }
     if (p.at as usize) < bytes.len() {
-        return refused(refuse(8, p.at));
+        return Err(refuse(8, p.at));
     }
-    let header = p.header;
-    Reading {
-        answer: ReadAnswer::Read,
-        ticket: Ticket {
-            header,
-            count: p.count,
-            marks,
-        },
-    }
+    Ok(Ticket {
+        header: p.header,
+        count: p.count,
+        marks,
+    })
 }
 
 // The bytes of a ticket, at the beginning of the output. Nothing is written unless all is: the fields are checked
 // first, then the room. The checks refuse exactly where reading the ticket's bytes would, with the same number and
 // place; else reading them gives the same fields.
-pub fn write(t: Ticket, out: &mut [u8]) -> Written
-    ensures { (result ≡ write_of (fields_of t) (length out.old))
-        × (out.new ≡ output_of (fields_of t) out.old)
-        × (read_of (bytes_of (fields_of t)) ≡ answered (check_of (fields_of t)) (fields_of t)) }
+pub fn write(t: &Ticket, out: &mut [u8]) -> Result<u32, Refusal>
+    ensures { (result ≡ write_of (fields_of t.now) (length out.old))
+        × (out.new ≡ output_of (fields_of t.now) out.old)
+        × (read_of (bytes_of (fields_of t.now)) ≡ answered (check_of (fields_of t.now)) (fields_of t.now)) }
 {
-    match check(t) {
-        Admitted::Refused(r) => Written::Refused(r),
-        Admitted::Next(p) => {
-            let n = p.at;
-            if out.len() < (n as usize) {
-                return Written::Refused(refuse(24, n));
-            }
-            put(t, out);
-            Written::Length(n)
-        }
+    let n = check(t)?.at;
+    if out.len() < (n as usize) {
+        return Err(refuse(24, n));
     }
+    put(t, out);
+    Ok(n)
 }

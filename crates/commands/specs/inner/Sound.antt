@@ -2,12 +2,11 @@
 -- falls outside its array.
 -- Assumes nothing.
 use Rattle.std.specs.Prelude.{ℕ, zero, suc, ◌+◌, ◌*◌, ◌≤◌, ◌<◌, ◌≡◌, true, cond, List, [], ◌∷◌, eqb}
+use Rattle.std.specs.Prelude.{Result, Ok, Err}
 use Rattle.lists.specs.Bit.{one}
 use Rattle.commands.specs.Rows.{CommandRow, size_of, command_rows, header_length}
 use Rattle.answers.specs.declared.Refusal.{Refusal}
 use Rattle.commands.specs.declared.progress.Progress.{Progress}
-use Rattle.commands.specs.declared.admit.Admitted.{Admitted}
-use Rattle.commands.specs.declared.admit.Admitted.TheVariants.{Refused, Next}
 
 -- the bytes of a command of the first of some rows that has this stage; of the three that come after the header the
 -- end is the first
@@ -32,6 +31,6 @@ pub record Sound (p : Progress) : Type 0 where
   pub named : p.nameable ≡ true → 1 ≤ p.count
 
 -- the progress, if there is one, is sound
-pub data SoundSoFar : Admitted → Type 0 where
-  stopped : {r : Refusal} → SoundSoFar (Refused r)
-  sound : {p : Progress} → Sound p → SoundSoFar (Next p)
+pub data SoundSoFar : Result Progress Refusal → Type 0 where
+  stopped : {r : Refusal} → SoundSoFar (Err r)
+  sound : {p : Progress} → Sound p → SoundSoFar (Ok p)

@@ -1,4 +1,4 @@
--- `header_command` meets its contract: by the stage that was matched. That the operands fit is the ranges of the types.
+-- `header_commands` meets its contract: by the stage that was matched. That the operands fit is the ranges of the types.
 -- Assumes nothing.
 use Prim.Native.Nat.{ℕ, ◌<◌}
 use mathlib.Core.Path.{◌≡◌, refl}
@@ -9,7 +9,7 @@ use Rattle.commands.specs.Fits.FitsLayout.{none, more}
 use Rattle.commands.specs.declared.header.Window.{Window}
 use Rattle.commands.specs.declared.command.HeaderCommand.TheVariants.{Code, Data, Stack, Entry, Home}
 use Rattle.commands.specs.declared.command.Command.TheVariants as Command
-use Rattle.commands.proofs.header.header_command.Goals as goal
+use Rattle.commands.proofs.header.header_commands.Goals as goal
 
 code_fits : (w : Window) → w.start < 65536 → w.length < 65536 → Fits (Command.Header (Code w))
 code_fits w s l = more s (more l none)
