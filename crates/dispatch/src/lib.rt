@@ -4,7 +4,7 @@
 // number, by the name behind it.
 #![tactic(auto)]
 
-ghost use Rattle.std.specs.Prelude.{◌≡◌, true, length, ◌<◌, ◌≤◌};
+ghost use Rattle.std.specs.Prelude.{◌≡◌, true, ◌<◌, ◌≤◌};
 ghost use Rattle.opcodes.specs.inner.Numbers.{action_of, mode_of};
 ghost use Rattle.opcodes.specs.inner.Fits.{fits};
 ghost use Rattle.instructions.specs.Effect.{effect_of};
@@ -22,7 +22,7 @@ use instructions::values::{
     add_word, binary_on, compare_word, load_word, subtract_word, test_accumulator, test_byte,
     unary_on,
 };
-use memory::{byte_at, word_at};
+use memory::{Memory, byte_at, word_at};
 use opcodes::instruction::{Accumulator, Binary, Index, Inherent, Unary, Word};
 use registers::Registers;
 
@@ -67,8 +67,7 @@ fn on_registers(n: u8, r: Registers) -> Registers
 }
 
 // 30 to 66: an accumulator, or the stack.
-fn on_stack(n: u8, r: Registers, mem: &mut [u8]) -> Registers
-    requires mem_len { length mem.old ≡ 65536 }
+fn on_stack(n: u8, r: Registers, mem: &mut Memory) -> Registers
     requires le_n { 30 ≤ n }
     requires n_bound { n < 67 }
     ensures { Does (action_of n) r mem.old result mem.new }
@@ -116,8 +115,7 @@ fn on_stack(n: u8, r: Registers, mem: &mut [u8]) -> Registers
 }
 
 // 67 to 96: an operand is read at its address.
-fn on_operand(n: u8, at: u16, r: Registers, mem: &[u8]) -> Registers
-    requires mem_len { length mem.now ≡ 65536 }
+fn on_operand(n: u8, at: u16, r: Registers, mem: &Memory) -> Registers
     requires le_n { 67 ≤ n }
     requires n_bound { n < 97 }
     ensures { ReadsAt (action_of n) at r mem.now result }
@@ -158,8 +156,7 @@ fn on_operand(n: u8, at: u16, r: Registers, mem: &[u8]) -> Registers
 }
 
 // 97 to 134: an operand's address is written to or gone to, or its bits are tested.
-fn on_address(n: u8, at: u16, from: u16, r: Registers, mem: &mut [u8]) -> Registers
-    requires mem_len { length mem.old ≡ 65536 }
+fn on_address(n: u8, at: u16, from: u16, r: Registers, mem: &mut Memory) -> Registers
     requires le_n { 97 ≤ n }
     requires n_bound { n < 135 }
     ensures { DoesAt (action_of n) at from r mem.old result mem.new }
@@ -225,8 +222,7 @@ pub fn waits(n: u8) -> bool
 }
 
 // Action n with an operand of mode k, whose bytes start at `from`; PC stands past the instruction.
-pub fn execute(n: u8, k: u8, from: u16, r: Registers, mem: &mut [u8]) -> Registers
-    requires mem_len { length mem.old ≡ 65536 }
+pub fn execute(n: u8, k: u8, from: u16, r: Registers, mem: &mut Memory) -> Registers
     requires n_bound { n < 135 }
     requires k_value { fits (action_of n) (mode_of k) ≡ true }
     ensures { Executed (effect_of (action_of n) (operand_from (mode_of k) from mem.old) r

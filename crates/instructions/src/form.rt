@@ -43,15 +43,13 @@ fn address_in(o: Operand, next: u16) -> Address
     ensures { result ≡ address_in o next }
 {
     match o {
-        Operand::Inherent => Address::Fixed(0),
-        Operand::Immediate(_) => Address::Fixed(0),
+        Operand::Inherent | Operand::Immediate(_) => Address::Fixed(0),
         Operand::Direct(d) => Address::Fixed(d as u16),
         Operand::Extended(a) => Address::Fixed(a),
         Operand::IndexedX(d) => Address::IndexedX(d),
         Operand::IndexedY(d) => Address::IndexedY(d),
         Operand::Relative(d) => Address::Fixed(target(next, d)),
-        Operand::Mask(a, _) => a,
-        Operand::MaskBranch(a, _, _) => a,
+        Operand::Mask(a, _) | Operand::MaskBranch(a, _, _) => a,
     }
 }
 
@@ -60,15 +58,14 @@ fn target_in(o: Operand, next: u16) -> u16
     ensures { result ≡ target_in o next }
 {
     match o {
-        Operand::Inherent => next,
-        Operand::Immediate(_) => next,
-        Operand::Direct(_) => next,
-        Operand::Extended(_) => next,
-        Operand::IndexedX(_) => next,
-        Operand::IndexedY(_) => next,
-        Operand::Relative(d) => target(next, d),
-        Operand::Mask(_, _) => next,
-        Operand::MaskBranch(_, _, d) => target(next, d),
+        Operand::Relative(d) | Operand::MaskBranch(_, _, d) => target(next, d),
+        Operand::Inherent
+        | Operand::Immediate(_)
+        | Operand::Direct(_)
+        | Operand::Extended(_)
+        | Operand::IndexedX(_)
+        | Operand::IndexedY(_)
+        | Operand::Mask(_, _) => next,
     }
 }
 
@@ -76,22 +73,18 @@ fn target_in(o: Operand, next: u16) -> u16
 fn branch_form(k: u8, t: u16) -> Form
     ensures { result ≡ branch_form k t }
 {
-    if k == 0 {
-        return Form::Jumps(Address::Fixed(t));
+    match k {
+        0 => Form::Jumps(Address::Fixed(t)),
+        1 => Form::Computes,
+        _ => Form::Branches(t),
     }
-    if k == 1 {
-        return Form::Computes;
-    }
-    Form::Branches(t)
 }
 
 fn load_form(w: Word) -> Form
     ensures { result ≡ load_form w }
 {
     match w {
-        Word::D => Form::Computes,
-        Word::X => Form::Computes,
-        Word::Y => Form::Computes,
+        Word::D | Word::X | Word::Y => Form::Computes,
         Word::S => Form::MovesSp,
     }
 }
@@ -101,22 +94,20 @@ pub fn form_of(a: Action, o: Operand, next: u16) -> Form
     ensures { result ≡ form_of a o next }
 {
     match a {
-        Action::Inherent(_) => Form::Computes,
-        Action::Unary(_, _) => Form::Computes,
-        Action::TstAccumulator(_) => Form::Computes,
-        Action::Binary(_, _) => Form::Computes,
-        Action::TstMemory => Form::Computes,
+        Action::Inherent(_)
+        | Action::Unary(_, _)
+        | Action::TstAccumulator(_)
+        | Action::Binary(_, _)
+        | Action::TstMemory
+        | Action::Addd
+        | Action::Subd
+        | Action::CompareWord(_) => Form::Computes,
         Action::LoadWord(w) => load_form(w),
-        Action::Addd => Form::Computes,
-        Action::Subd => Form::Computes,
-        Action::CompareWord(_) => Form::Computes,
-        Action::StoreByte(_) => Form::StoresByte(address_in(o, next)),
+        Action::StoreByte(_) | Action::Modify(_) | Action::Bset | Action::Bclr => {
+            Form::StoresByte(address_in(o, next))
+        }
         Action::StoreWord(_) => Form::StoresWord(address_in(o, next)),
-        Action::Modify(_) => Form::StoresByte(address_in(o, next)),
-        Action::Bset => Form::StoresByte(address_in(o, next)),
-        Action::Bclr => Form::StoresByte(address_in(o, next)),
-        Action::Brset => Form::Branches(target_in(o, next)),
-        Action::Brclr => Form::Branches(target_in(o, next)),
+        Action::Brset | Action::Brclr => Form::Branches(target_in(o, next)),
         Action::Branch(k) => branch_form(k % 16, target_in(o, next)),
         Action::Jmp => Form::Jumps(address_in(o, next)),
         Action::Call => Form::Calls(address_in(o, next)),
@@ -130,8 +121,6 @@ pub fn form_of(a: Action, o: Operand, next: u16) -> Form
         Action::SetStack(_) => Form::MovesSp,
         Action::Swi => Form::Interrupts,
         Action::Rti => Form::Resumes,
-        Action::Wai => Form::Waits,
-        Action::Stop => Form::Waits,
-        Action::Test => Form::Waits,
+        Action::Wai | Action::Stop | Action::Test => Form::Waits,
     }
 }

@@ -3,23 +3,23 @@ ghost use Rattle.std.specs.Prelude.{◌≡◌};
 ghost use Rattle.registers.specs.Registers.{data_of, with_data, with_a, with_d, with_x};
 ghost use Rattle.instructions.specs.Inherent.{with_i, replaced, inherent_of};
 
-use arithmetic::byte::{ByteResult, add8, logic8, sub8};
-use arithmetic::codes::{with_c, with_v, with_z};
+use arithmetic::byte::{add8, logic8, sub8};
+use arithmetic::codes::{Coded, with_c, with_v, with_z};
 use arithmetic::decimal::daa;
 use arithmetic::divide::{Divided, fdiv, idiv};
-use arithmetic::word::{WordResult, asld, lsrd, mul};
+use arithmetic::word::{asld, lsrd, mul};
 use opcodes::instruction::Inherent;
 use registers::Registers;
 use registers::flags::Flags;
 use registers::word::{wrapping_add, wrapping_sub};
 
-fn to_a(r: Registers, w: ByteResult) -> Registers
+fn to_a(r: Registers, w: Coded<u8>) -> Registers
     ensures { result ≡ with_data r (with_a (data_of r) w.value w.flags) }
 {
     r.with_a(w.value, w.flags)
 }
 
-fn to_d(r: Registers, w: WordResult) -> Registers
+fn to_d(r: Registers, w: Coded<u16>) -> Registers
     ensures { result ≡ with_data r (with_d (data_of r) w.value w.flags) }
 {
     r.with_d(w.value, w.flags)
@@ -36,16 +36,9 @@ fn to_xd(r: Registers, w: Divided) -> Registers
 pub fn with_i(f: u8, set: bool) -> u8
     ensures { result ≡ with_i f set }
 {
-    let g = Flags::from_byte(f);
     Flags {
-        s: g.s,
-        x: g.x,
-        h: g.h,
         i: set,
-        n: g.n,
-        z: g.z,
-        v: g.v,
-        c: g.c,
+        ..Flags::from_byte(f)
     }
     .to_byte()
 }
@@ -55,16 +48,9 @@ pub fn replaced(new: u8, f: u8) -> u8
     ensures { result ≡ replaced new f }
 {
     let g = Flags::from_byte(new);
-    let old = Flags::from_byte(f);
     Flags {
-        s: g.s,
-        x: g.x & old.x,
-        h: g.h,
-        i: g.i,
-        n: g.n,
-        z: g.z,
-        v: g.v,
-        c: g.c,
+        x: g.x & Flags::from_byte(f).x,
+        ..g
     }
     .to_byte()
 }
@@ -72,8 +58,7 @@ pub fn replaced(new: u8, f: u8) -> u8
 fn compared(r: Registers) -> Registers
     ensures { result ≡ with_data r (inherent_of Inherent.Cba r.sp (data_of r)) }
 {
-    let w = sub8(r.a, r.b, false, r.flags);
-    r.with_flags(w.flags)
+    r.with_flags(sub8(r.a, r.b, false, r.flags).flags)
 }
 
 pub fn inherent(i: Inherent, r: Registers) -> Registers

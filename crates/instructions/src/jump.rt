@@ -1,11 +1,11 @@
 // Branches, jumps and calls.
-ghost use Rattle.std.specs.Prelude.{◌≡◌, cond, length};
+ghost use Rattle.std.specs.Prelude.{◌≡◌, cond};
 ghost use Rattle.registers.specs.Registers.{with_pc};
 ghost use Rattle.opcodes.specs.declared.instruction.Action.TheVariants as Action;
 ghost use Rattle.instructions.specs.Outcome.{all_set, none_set};
 ghost use Rattle.instructions.specs.inner.Sited.{GoesTo, GoesOnBits, JumpsTo, StoresAt};
 
-use memory::push_word;
+use memory::{Memory, push_word};
 use opcodes::condition::test_holds;
 use registers::Registers;
 use registers::word::wrapping_sub;
@@ -59,8 +59,7 @@ pub fn jump(at: u16, r: Registers) -> Registers
 }
 
 // JSR and BSR: PC stands past the instruction.
-pub fn call(at: u16, r: Registers, mem: &mut [u8]) -> Registers
-    requires { length mem.old ≡ 65536 }
+pub fn call(at: u16, r: Registers, mem: &mut Memory) -> Registers
     ensures { StoresAt Action.Call at r mem.old result mem.new }
 {
     push_word(mem, r.sp, r.pc);

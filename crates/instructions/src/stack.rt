@@ -1,17 +1,15 @@
 // Pushes and pulls, what moves SP alone, and RTS.
-ghost use Rattle.std.specs.Prelude.{length, ◌≡◌};
 ghost use Rattle.opcodes.specs.declared.instruction.Action.TheVariants as Action;
 ghost use Rattle.instructions.specs.inner.Sited.{Does, Leaves};
 
 use crate::named::{accumulator, index_register, with_accumulator, with_index};
-use memory::{byte_at, put_byte, word_at};
+use memory::{Memory, byte_at, put_byte, word_at};
 use opcodes::instruction::{Accumulator, Index};
 use registers::Registers;
 use registers::word::{wrapping_add, wrapping_sub};
 
 // PSHA, PSHB.
-pub fn push_byte(c: Accumulator, r: Registers, mem: &mut [u8]) -> Registers
-    requires { length mem.old ≡ 65536 }
+pub fn push_byte(c: Accumulator, r: Registers, mem: &mut Memory) -> Registers
     ensures { Does (Action.PushByte c) r mem.old result mem.new }
 {
     put_byte(mem, r.sp, accumulator(c, r));
@@ -19,8 +17,7 @@ pub fn push_byte(c: Accumulator, r: Registers, mem: &mut [u8]) -> Registers
 }
 
 // PSHX, PSHY.
-pub fn push_word(i: Index, r: Registers, mem: &mut [u8]) -> Registers
-    requires { length mem.old ≡ 65536 }
+pub fn push_word(i: Index, r: Registers, mem: &mut Memory) -> Registers
     ensures { Does (Action.PushWord i) r mem.old result mem.new }
 {
     memory::push_word(mem, r.sp, index_register(i, r));
@@ -28,8 +25,7 @@ pub fn push_word(i: Index, r: Registers, mem: &mut [u8]) -> Registers
 }
 
 // PULA, PULB.
-pub fn pull_byte(c: Accumulator, r: Registers, mem: &[u8]) -> Registers
-    requires { length mem.now ≡ 65536 }
+pub fn pull_byte(c: Accumulator, r: Registers, mem: &Memory) -> Registers
     ensures { Does (Action.PullByte c) r mem.now result mem.now }
 {
     let s = wrapping_add(r.sp, 1);
@@ -38,8 +34,7 @@ pub fn pull_byte(c: Accumulator, r: Registers, mem: &[u8]) -> Registers
 }
 
 // PULX, PULY.
-pub fn pull_word(i: Index, r: Registers, mem: &[u8]) -> Registers
-    requires { length mem.now ≡ 65536 }
+pub fn pull_word(i: Index, r: Registers, mem: &Memory) -> Registers
     ensures { Does (Action.PullWord i) r mem.now result mem.now }
 {
     let v = word_at(mem, wrapping_add(r.sp, 1));
@@ -68,8 +63,7 @@ pub fn set_stack(i: Index, r: Registers) -> Registers
 }
 
 // RTS.
-pub fn return_from(r: Registers, mem: &[u8]) -> Registers
-    requires { length mem.now ≡ 65536 }
+pub fn return_from(r: Registers, mem: &Memory) -> Registers
     ensures { Does Action.Rts r mem.now result mem.now }
 {
     r.with_pc_sp(word_at(mem, wrapping_add(r.sp, 1)), wrapping_add(r.sp, 2))

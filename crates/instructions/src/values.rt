@@ -44,9 +44,7 @@ pub fn load_word(w: Word, v: u16, r: Registers) -> Registers
 {
     let q = to_word(w, r, v, logic16(v, r.flags));
     match w {
-        Word::D => q,
-        Word::X => q,
-        Word::Y => q,
+        Word::D | Word::X | Word::Y => q,
         Word::S => q.with_sp(v),
     }
 }
@@ -71,6 +69,5 @@ pub fn subtract_word(v: u16, r: Registers) -> Registers
 pub fn compare_word(w: Word, v: u16, r: Registers) -> Registers
     ensures { TakesWord (Action.CompareWord w) v r result }
 {
-    let difference = sub16(word_register(w, r), v, r.flags);
-    r.with_flags(difference.flags)
+    r.with_flags(sub16(word_register(w, r), v, r.flags).flags)
 }

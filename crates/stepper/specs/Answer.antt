@@ -1,11 +1,11 @@
 -- What a step and a run answer, with document 01's numbers and places ("Where a ticket stops", step and run), and what
 -- the code's enums say of it.
 -- Assumes nothing.
-use Rattle.std.specs.Prelude.{ℕ}
+use Rattle.std.specs.Prelude.{ℕ, Result, Ok, Err}
 use Rattle.registers.specs.declared.Cycles.{Cycles}
 use Rattle.registers.specs.declared.Registers.{Registers}
-use Rattle.stepper.specs.declared.answer.Stepped.{Stepped}
-use Rattle.stepper.specs.declared.answer.Stepped.TheVariants as Stepped
+use Rattle.answers.specs.declared.Refusal.{Refusal}
+use Rattle.stepper.specs.declared.answer.Reached.{Reached}
 use Rattle.stepper.specs.declared.answer.Ran.{Ran}
 use Rattle.stepper.specs.declared.answer.Ran.TheVariants as Ran
 
@@ -30,11 +30,11 @@ cycles_spent (home r k) = k.0
 cycles_spent (spent r k) = k.0
 cycles_spent (refused n p r k) = k.0
 
-abbrev pub answer_of : Stepped → Answer
-answer_of (Stepped.Done r k) = done r k
-answer_of (Stepped.Refused x) = refused x.number x.place
+abbrev pub answer_of : Result Reached Refusal → Answer
+answer_of (Ok q) = done q.registers q.cycles
+answer_of (Err x) = refused x.number x.place
 
 abbrev pub ran_of : Ran → RunAnswer
-ran_of (Ran.Home r k) = home r k
-ran_of (Ran.Spent r k) = spent r k
-ran_of (Ran.Refused r k x) = refused x.number x.place r k
+ran_of (Ran.Home q) = home q.registers q.cycles
+ran_of (Ran.Spent q) = spent q.registers q.cycles
+ran_of (Ran.Refused q x) = refused x.number x.place q.registers q.cycles

@@ -1,12 +1,11 @@
 -- Whether an instruction calls, returns or does neither: what the return addresses in use go by (document 01, "The way
 -- home").
 -- Assumes nothing.
-use Rattle.std.specs.Prelude.{ℕ, List}
+use Rattle.std.specs.Prelude.{ℕ, List, Option, Some, None}
 use Rattle.registers.specs.Word.{wrapping_add}
 use Rattle.opcodes.specs.Decode.{place_in, decode_of}
 use Rattle.opcodes.specs.Tables.{length_at}
 use Rattle.opcodes.specs.declared.instruction.Decoded.{Decoded}
-use Rattle.opcodes.specs.declared.instruction.Decoded.TheVariants.{Instruction, Nothing}
 use Rattle.instructions.specs.Entry.{form_of}
 use Rattle.instructions.specs.declared.form.Form.{Form}
 use Rattle.instructions.specs.declared.form.Form.TheVariants.{Computes, StoresByte, StoresWord, PushesByte, PushesWord}
@@ -38,9 +37,9 @@ flow_by Interrupts = plain
 flow_by Resumes = plain
 flow_by Waits = plain
 
-abbrev pub flow_in : ℕ → Decoded → ℕ → Flow
-flow_in p Nothing pc = plain
-flow_in p (Instruction a o) pc = flow_by (form_of a o (wrapping_add pc (length_at p)))
+abbrev pub flow_in : ℕ → Option Decoded → ℕ → Flow
+flow_in p None pc = plain
+flow_in p (Some d) pc = flow_by (form_of d.action d.operand (wrapping_add pc (length_at p)))
 
 -- of the instruction that memory has at PC
 unfoldable pub flow_of : List ℕ → ℕ → Flow

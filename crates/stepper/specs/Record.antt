@@ -1,13 +1,12 @@
 -- One step on a lent register record (document 01, "The machine": "Inside the library the monitor lends its register
 -- record, and one thin call advances it by a step").
 -- Assumes nothing.
-use Rattle.std.specs.Prelude.{ℕ, List}
+use Rattle.std.specs.Prelude.{ℕ, List, Result, Ok, Err}
 use Rattle.registers.specs.declared.Cycles.{Cycles}
 use Rattle.registers.specs.declared.Registers.{Registers}
+use Rattle.answers.specs.declared.Refusal.{Refusal}
 use Rattle.stepper.specs.Answer.{Answer, done as step_done, refused as step_refused}
 use Rattle.stepper.specs.Step.{step_of}
-use Rattle.stepper.specs.declared.record.Advanced.{Advanced}
-use Rattle.stepper.specs.declared.record.Advanced.TheVariants.{Done, Refused}
 
 -- the cycles, or a refusal's number and place
 pub data AdvanceAnswer : Type 0 where
@@ -29,9 +28,9 @@ unfoldable pub advance_of : Registers → List ℕ → AfterAdvance
 advance_of r m = let d = step_of r m in after_step d.answer r d.memory
 
 -- what the code's answer says
-abbrev pub advanced_of : Advanced → AdvanceAnswer
-advanced_of (Done k) = done k
-advanced_of (Refused x) = refused x.number x.place
+abbrev pub advanced_of : Result Cycles Refusal → AdvanceAnswer
+advanced_of (Ok k) = done k
+advanced_of (Err x) = refused x.number x.place
 
-abbrev pub afterwards : Advanced → Registers → List ℕ → AfterAdvance
+abbrev pub afterwards : Result Cycles Refusal → Registers → List ℕ → AfterAdvance
 afterwards a r m = record { answer = advanced_of a; registers = r; memory = m }

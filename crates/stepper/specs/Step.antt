@@ -1,6 +1,6 @@
 -- One step: what it does, as data, and from that its answer and the memory afterwards (document 01, "The machine").
 -- Assumes nothing.
-use Rattle.std.specs.Prelude.{ℕ, Bool, true, false, List, eqb, length}
+use Rattle.std.specs.Prelude.{ℕ, Bool, true, false, List, Option, Some, None, eqb, length}
 use Rattle.registers.specs.Word.{wrapping_add, smaller_of}
 use Rattle.registers.specs.Registers.{with_pc, with_lowest}
 use Rattle.registers.specs.declared.Registers.{Registers}
@@ -10,7 +10,6 @@ use Rattle.opcodes.specs.Decode.{Bytes, place_in, decode_at}
 use Rattle.instructions.specs.Form.{waits}
 use Rattle.instructions.specs.Entry.{form_of}
 use Rattle.opcodes.specs.declared.instruction.Decoded.{Decoded}
-use Rattle.opcodes.specs.declared.instruction.Decoded.TheVariants.{Instruction, Nothing}
 use Rattle.instructions.specs.Effect.{Effect, effect_of}
 use Rattle.stepper.specs.Answer.{Answer, done, refused}
 
@@ -34,11 +33,11 @@ executed true r e k = stopped 23 r.pc
 executed false r e k = did (lowered_from r e.regs) e.stores k
 
 -- what is decoded at a place is done with PC past the instruction
-unfoldable pub carried_out : ℕ → Decoded → Registers → List ℕ → Did
-carried_out p Nothing r m = stopped 22 r.pc
-carried_out p (Instruction a o) r m =
+unfoldable pub carried_out : ℕ → Option Decoded → Registers → List ℕ → Did
+carried_out p None r m = stopped 22 r.pc
+carried_out p (Some d) r m =
     let q = with_pc r (wrapping_add r.pc (length_at p)) in
-    executed (waits (form_of a o q.pc)) r (effect_of a o q m) (cycles_at p)
+    executed (waits (form_of d.action d.operand q.pc)) r (effect_of d.action d.operand q m) (cycles_at p)
 
 abbrev pub did_if : Bool → Registers → List ℕ → Did
 did_if true r m = let f = fetched m r.pc in carried_out (place_in f) (decode_at (place_in f) f) r m

@@ -1,17 +1,20 @@
-// What a step and a run answer. The registers and the cycles stand first in every case, so that they lie at one place.
+// What a step and a run answer.
 use answers::Refusal;
 use registers::{Cycles, Registers};
 
+// The registers that were reached, and the cycles that were spent.
 #[derive(Clone, Copy)]
-pub enum Stepped {
-    Done(Registers, Cycles),
-    Refused(Refusal),
+pub struct Reached {
+    pub registers: Registers,
+    pub cycles: Cycles,
 }
+
+pub type Stepped = Result<Reached, Refusal>;
 
 // Document 01's home and spent, and a refusal on the way.
 #[derive(Clone, Copy)]
 pub enum Ran {
-    Home(Registers, Cycles),
-    Spent(Registers, Cycles),
-    Refused(Registers, Cycles, Refusal),
+    Home(Reached),
+    Spent(Reached),
+    Refused(Reached, Refusal),
 }

@@ -8,7 +8,7 @@ ghost use Rattle.stepper.specs.Step.{step_of};
 ghost use Rattle.stepper.specs.Run.{run_of};
 ghost use Rattle.stepper.specs.inner.Until.{ended_of, as_step};
 
-use crate::answer::{Ran, Stepped};
+use crate::answer::{Ran, Reached, Stepped};
 use crate::environment::Environment;
 use crate::until::{Ended, run_until};
 use answers::refuse;
@@ -24,9 +24,8 @@ fn stepped(a: Ended) -> Stepped
     ensures { answer_of result ≡ as_step (ended_of a) }
 {
     match a {
-        Ended::Arrived(q, c) => Stepped::Done(q, c),
-        Ended::Spent(q, c) => Stepped::Done(q, c),
-        Ended::Refused(q, _, n) => Stepped::Refused(refuse(n, q.pc as u32)),
+        Ended::Arrived(q) | Ended::Spent(q) => Ok(q),
+        Ended::Refused(q, n) => Err(refuse(n, q.registers.pc as u32)),
     }
 }
 
@@ -34,9 +33,9 @@ fn ran(a: Ended) -> Ran
     ensures { ran_of result ≡ ended_of a }
 {
     match a {
-        Ended::Arrived(q, c) => Ran::Home(q, c),
-        Ended::Spent(q, c) => Ran::Spent(q, c),
-        Ended::Refused(q, c, n) => Ran::Refused(q, c, refuse(n, q.pc as u32)),
+        Ended::Arrived(q) => Ran::Home(q),
+        Ended::Spent(q) => Ran::Spent(q),
+        Ended::Refused(q, n) => Ran::Refused(q, refuse(n, q.registers.pc as u32)),
     }
 }
 
@@ -45,10 +44,10 @@ pub fn step(r: Registers, mem: &mut [u8]) -> Stepped
     ensures { (answer_of result ≡ (step_of r mem.old).answer)
         × (mem.new ≡ (step_of r mem.old).memory) }
 {
-    if mem.len() != 65536 {
-        return Stepped::Refused(refuse(21, 0));
-    }
-    stepped(run_until(r, mem, 255, 0, true))
+    let Some(memory) = mem.as_mut_array() else {
+        return Err(refuse(21, 0));
+    };
+    stepped(run_until(r, memory, 255, 0, true))
 }
 
 // Instructions until the environment's home, a refusal, or one that would pass the budget.
@@ -56,11 +55,15 @@ pub fn run(r: Registers, mem: &mut [u8], env: Environment, budget: u32) -> Ran
     ensures { (ran_of result ≡ (run_of env r mem.old budget).answer)
         × (mem.new ≡ (run_of env r mem.old budget).memory) }
 {
-    if mem.len() != 65536 {
-        return Ran::Refused(r, Cycles(0), refuse(21, 0));
-    }
+    let start = Reached {
+        registers: r,
+        cycles: Cycles(0),
+    };
+    let Some(memory) = mem.as_mut_array() else {
+        return Ran::Refused(start, refuse(21, 0));
+    };
     if r.pc == env.home {
-        return Ran::Home(r, Cycles(0));
+        return Ran::Home(start);
     }
-    ran(run_until(r, mem, budget, env.home, false))
+    ran(run_until(r, memory, budget, env.home, false))
 }

@@ -33,9 +33,9 @@ until_of once home r m b = next_from once home b b 0 r m
 
 -- what the code says of how the loop ends: a refusal's place is PC
 abbrev pub ended_of : Ended → RunAnswer
-ended_of (Ended.Arrived r k) = run_home r k
-ended_of (Ended.Spent r k) = spent r k
-ended_of (Ended.Refused r k n) = run_refused n r.pc r k
+ended_of (Ended.Arrived q) = run_home q.registers q.cycles
+ended_of (Ended.Spent q) = spent q.registers q.cycles
+ended_of (Ended.Refused q n) = run_refused n q.registers.pc q.registers q.cycles
 
 -- the answer of a step by that of the loop
 abbrev pub as_step : RunAnswer → Answer
