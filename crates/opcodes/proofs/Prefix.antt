@@ -1,6 +1,7 @@
 -- The bytes that lead to another map have no instruction in the first one, so that the first map may be looked at
 -- first.
 -- Assumes nothing.
+use Rattle.std.specs.Prelude.{Option, Some, None}
 use mathlib.Core.Path.{◌≡◌, refl, sym, ap, ◌∙◌}
 use mathlib.Core.Bool.{Bool, true, false, cond}
 use mathlib.Core.List.{List}
@@ -10,7 +11,7 @@ use lib.Dec.{eqb, ltb}
 use lib.ListN.{get_or}
 use borrow.Author.Tests.{eqb-true, eq-eqb, ne_eqb, lt-ltb, le-ltb}
 use Rattle.opcodes.specs.Tables.{costs, cost_at}
-use Rattle.opcodes.specs.declared.lookup.Found.TheVariants as Found
+use Rattle.opcodes.specs.declared.lookup.Found.{Found}
 use Rattle.opcodes.specs.Decode.{page_of, opcode_place, opcode_size}
 use Rattle.opcodes.specs.inner.Lookup.{found_of}
 
@@ -53,6 +54,14 @@ pub size_some : (p : ℕ) → 1 ≤ opcode_size p
 unfolding opcode_size
 size_some p = sizes (ltb p 256)
 
+most : (b : Bool) → cond b 1 2 ≤ 2
+most true = omega arith
+most false = omega arith
+
+pub size_most : (p : ℕ) → opcode_size p ≤ 2
+unfolding opcode_size
+size_most p = most (ltb p 256)
+
 pub size_1 : (p : ℕ) → p < 256 → opcode_size p ≡ 1
 unfolding opcode_size
 size_1 p h = simp (lt-ltb _ _ h)
@@ -61,7 +70,7 @@ size_2 : (p : ℕ) → 256 ≤ p → opcode_size p ≡ 2
 unfolding opcode_size
 size_2 p h = simp (le-ltb _ _ h)
 
--- an entry of the lent table
+-- an entry of the code's table
 pub entry : (t : List ℕ) → t ≡ costs → (p : ℕ) → get_or t p 0 ≡ cost_at p
 unfolding cost_at
 entry t e p = ap (λ (x : List ℕ). get_or x p 0) e
@@ -83,11 +92,11 @@ module _ (first second : ℕ) where
       (in_other far ∙ ap (λ (k : ℕ). k + second) (sym e), size_2 (g + second) (omega (arith, a_page first far)))
 
   module _ (t : List ℕ) (e : t ≡ costs) (p : ℕ) (h : opcode_place first second ≡ p) where
-    pub there : (s : ℕ) → opcode_size p ≡ s → (get_or t p 0 ≡ 0 → ⊥) → Found.At p s (get_or t p 0)
-        ≡ found_of first second
+    pub there : (s : ℕ) → opcode_size p ≡ s → (get_or t p 0 ≡ 0 → ⊥) →
+        ◌≡◌ {A = Option Found} (Some (record { place = p; size = s; cost = get_or t p 0 })) (found_of first second)
     unfolding found_of
     there s g n = simp (h, ← entry t e p, g, ne_eqb _ _ n)
 
-    pub nowhere : get_or t p 0 ≡ 0 → Found.Nothing ≡ found_of first second
+    pub nowhere : get_or t p 0 ≡ 0 → None ≡ found_of first second
     unfolding found_of
     nowhere z = simp (h, ← entry t e p, eq-eqb _ _ z)

@@ -29,6 +29,7 @@ fn word_from(high: u8, low: u8) -> u16
 }
 
 // An operand of a mode, from the three bytes after the opcode.
+#[tactic(auto, unfolding(crate::specs::Decode::operand_of))]
 fn operand_of(mode: Mode, u: u8, v: u8, w: u8) -> Operand
     ensures { result ≡ operand_of mode u v w }
 {

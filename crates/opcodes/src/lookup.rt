@@ -1,6 +1,6 @@
 // The place of an instruction in the opcode maps, by its first two bytes; and what the tables have at a place.
-ghost use Rattle.std.specs.Prelude.{◌≡◌, ◌<◌, ◌≤◌};
-ghost use Rattle.opcodes.specs.Tables.{action_at, mode_at};
+ghost use Rattle.std.specs.Prelude.{◌≡◌, ◌<◌, ◌≤◌, IfSome};
+ghost use Rattle.opcodes.specs.Tables.{cost_at, action_at, mode_at};
 ghost use Rattle.opcodes.specs.inner.Numbers.{action_of, mode_of};
 ghost use Rattle.opcodes.specs.Decode.{page_of};
 ghost use Rattle.opcodes.specs.inner.Lookup.{found_of};
@@ -16,7 +16,8 @@ pub struct Found {
     pub cost: u32,
 }
 
-// 256 times the map that a first byte leads to.
+// 256 times the map that a first byte leads to: 0 for the first, so no Option.
+#[tactic(auto, unfolding(crate::specs::Decode::page_of))]
 pub fn page_of(op: u8) -> u16
     ensures { (result ≡ page_of op) × (result ≤ 768) }
 {
@@ -30,13 +31,19 @@ pub fn page_of(op: u8) -> u16
 
 // Only where the first map has nothing is the first byte looked at again: it may lead to another map.
 pub fn found_of(first: u8, second: u8) -> Option<Found>
-    ensures { result ≡ found_of first second }
+    ensures found { result ≡ found_of first second }
+    ensures in_tables { IfSome result (λ f. (f.place < 1024) × (f.size ≤ 2) × (f.cost < 65536)
+        × (f.cost ≡ cost_at f.place)) }
 {
     let table = costs();
     let place = first as usize;
     let cost = table[place] as u32;
     if cost != 0 {
-        return Some(Found { place, size: 1, cost });
+        return Some(Found {
+            place,
+            size: 1,
+            cost,
+        });
     }
     let page = page_of(first);
     if page == 0 {
@@ -55,6 +62,7 @@ pub fn found_of(first: u8, second: u8) -> Option<Found>
 }
 
 // The number of the action of a place.
+#[tactic(auto, unfolding(crate::specs::Tables::action_at), using(crate::proofs::Lent::lent))]
 pub fn number_at(place: usize) -> u8
     requires { place < 1024 }
     ensures { action_of result ≡ action_at place }
@@ -62,6 +70,7 @@ pub fn number_at(place: usize) -> u8
     actions()[place]
 }
 
+#[tactic(auto, unfolding(crate::specs::Tables::mode_at), using(crate::proofs::Lent::lent))]
 pub fn mode_number_at(place: usize) -> u8
     requires { place < 1024 }
     ensures { mode_of result ≡ mode_at place }
