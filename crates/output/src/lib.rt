@@ -11,6 +11,7 @@ pub fn decimal(rt: &impl Print, n: u64) {
     let _ = print!(rt; "{n}");
 }
 
+// The two differ in a type and a width; one function of both is no plainer, since each call would name its width.
 pub fn byte(rt: &impl Print, name: &[u8], v: u8) {
     text(rt, name);
     let _ = print!(rt; "{v:02x}");
@@ -22,14 +23,10 @@ pub fn word(rt: &impl Print, name: &[u8], v: u16) {
 }
 
 pub fn registers(rt: &impl Print, r: Registers) {
-    byte(rt, b"A ", r.a);
-    byte(rt, b" B ", r.b);
-    word(rt, b" X ", r.x);
-    word(rt, b" Y ", r.y);
-    word(rt, b" SP ", r.sp);
-    word(rt, b" PC ", r.pc);
-    byte(rt, b" flags ", r.flags);
-    word(rt, b" lowest ", r.lowest);
+    let _ = print!(rt;
+        "A {:02x} B {:02x} X {:04x} Y {:04x} SP {:04x} PC {:04x} flags {:02x} lowest {:04x}",
+        r.a, r.b, r.x, r.y, r.sp, r.pc, r.flags, r.lowest
+    );
 }
 
 // A name, a number and the end of a line.
