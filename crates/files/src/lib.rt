@@ -1,55 +1,45 @@
 // An inner crate: whole files in lent buffers, for the programs at the desk.
 #![tactic(auto)]
 
+ghost use Rattle.std.specs.Prelude.{IfOk};
 ghost use Rattle.files.specs.inner.Counts.{IsPrefixLen};
 
 use output::text;
-use std::io::{ErrorKind, Read};
+use std::fs;
+use std::io::{Error, ErrorKind, Read};
 use std::rt::Files;
-use std::{fs, io};
 
 pub mod routine; // a routine's two files
 
-// Whether the whole file is in the buffer, whether there is none of that name, and how many bytes were read.
-#[derive(Clone, Copy)]
-pub struct File {
-    pub whole: bool,
-    pub missing: bool,
-    pub length: usize,
+// Why a file is not in the buffer: there is none of that name; or it is longer, or cannot be opened or read to its end.
+#[derive(Clone, Copy, Debug, PartialEq, Eq)]
+pub enum FileError {
+    Missing,
+    Unfit,
 }
 
-// A file that is longer, or that cannot be opened or read to its end, does not fit. One more byte is asked for: its
-// absence tells the end from a failure, and from more to come.
-pub fn load(rt: &impl Files, name: &[u8], buf: &mut [u8]) -> File
-    ensures { IsPrefixLen result.length buf.new }
-{
-    match open(rt, name) {
-        Ok(file) => load_opened(file, buf),
-        Err(e) => File {
-            whole: false,
-            missing: e.kind() == ErrorKind::NotFound,
-            length: 0,
-        },
+impl From<Error> for FileError {
+    fn from(e: Error) -> FileError {
+        match e.kind() {
+            ErrorKind::NotFound => FileError::Missing,
+            _ => FileError::Unfit,
+        }
     }
 }
 
-// No file is opened by a name that is not UTF-8.
-fn open<R: Files>(rt: &R, name: &[u8]) -> io::Result<R::File> {
-    match str::from_utf8(name) {
-        Ok(path) => fs::open(rt, path),
-        Err(_) => Err(io::Error::from(ErrorKind::InvalidInput)),
-    }
-}
-
-fn load_opened(mut file: impl Read + Drop, buf: &mut [u8]) -> File
-    ensures { IsPrefixLen result.length buf.new }
+// How many bytes the whole file has, at the start of the buffer. No file is opened by a name that is not UTF-8. One more
+// byte is asked for: its absence tells the end from a failure, and from more to come.
+pub fn load(rt: &impl Files, name: &[u8], buf: &mut [u8]) -> Result<usize, FileError>
+    ensures { IfOk result (λ n. IsPrefixLen n buf.new) }
 {
+    let Ok(path) = str::from_utf8(name) else {
+        return Err(FileError::Unfit);
+    };
+    let mut file = fs::open(rt, path)?;
     let length = fill(&mut file, buf);
-    let mut more = [0u8; 1];
-    File {
-        whole: matches!(file.read(&mut more), Ok(0)),
-        missing: false,
-        length,
+    match file.read(&mut [0u8; 1]) {
+        Ok(0) => Ok(length),
+        _ => Err(FileError::Unfit),
     }
 }
 
@@ -61,9 +51,8 @@ pub fn fill(file: &mut impl Read, buf: &mut [u8]) -> usize
     let mut done = 0;
     while done < buf.len() {
         match file.read(&mut buf[done..]) {
-            Ok(0) => break,
+            Ok(0) | Err(_) => break,
             Ok(n) => done += n,
-            Err(_) => break,
         }
     }
     done
