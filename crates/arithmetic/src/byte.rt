@@ -75,6 +75,7 @@ fn shifted(r: u8, c: bool, f: u8) -> Coded<u8>
 }
 
 // The ten that make a byte of a byte.
+#[tactic(auto, using(crate::proofs::Negation::neg_difference))]
 pub fn unary(u: Unary, m: u8, f: u8) -> Coded<u8>
     ensures { result ≡ packed (unary_of u m (flags_of f)) }
 {

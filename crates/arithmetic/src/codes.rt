@@ -66,6 +66,7 @@ pub fn with_zvc(f: u8, z: bool, v: bool, c: bool) -> u8
 
 // V of the sum r of x and m, at every bit: a byte's is bit 7 and a word's bit 15. It is set where r differs from both.
 // V of the difference r of x and m is `overflow(m, r, x)`: x is the sum of m and r.
+#[tactic(auto, using(crate::proofs::Overflow::overflow_bit))]
 pub fn overflow(x: u16, m: u16, r: u16) -> u16
     ensures { (k : ℕ) → bit k result ≡ overflow_sum k x m r }
 {

@@ -8,6 +8,7 @@ use crate::byte::coded;
 use crate::codes::Coded;
 use lists::bit::one;
 
+#[tactic(auto, unfolding(crate::specs::Decimal::daa_of), using(crate::proofs::Bits::when_one))]
 pub fn daa(a: u8, f: u8) -> Coded<u8>
     ensures { result ≡ packed (daa_of a (flags_of f)) }
 {

@@ -38,6 +38,7 @@ fn no_quotient(d: u16, v: bool, c: bool, f: u8) -> Divided
 }
 
 // By zero there is no quotient, and C is set.
+#[tactic(auto, unfolding(crate::specs::Divide::idiv_of))]
 pub fn idiv(d: u16, x: u16, f: u8) -> Divided
     ensures { result ≡ packed_divided (idiv_of d x (flags_of f)) }
 {
@@ -48,6 +49,7 @@ pub fn idiv(d: u16, x: u16, f: u8) -> Divided
 }
 
 // With X at or below D there is no quotient, and V is set; C says whether X was zero.
+#[tactic(auto, unfolding(crate::specs::Divide::fdiv_of))]
 pub fn fdiv(d: u16, x: u16, f: u8) -> Divided
     ensures { result ≡ packed_divided (fdiv_of d x (flags_of f)) }
 {
