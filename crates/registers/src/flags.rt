@@ -1,9 +1,6 @@
 // The condition codes as eight bools, and as the byte that the registers hold.
 ghost use Rattle.std.specs.Prelude.{◌≡◌};
 ghost use Rattle.registers.specs.Flags.{flags_of, byte_of};
-ghost use Rattle.lists.specs.Bit.{one};
-
-use lists::bit::one;
 
 // Document 01's flags S X H I N Z V C, from bit 7 to bit 0 of their byte.
 #[derive(Clone, Copy)]
@@ -18,10 +15,10 @@ pub struct Flags {
     pub c: bool,
 }
 
-impl Flags {
-    pub fn from_byte(v: u8) -> Flags
-        ensures { result ≡ flags_of v }
-    {
+impl From<u8> for Flags {
+    ghost from_gives = { λ v f. f ≡ flags_of v };
+
+    fn from(v: u8) -> Flags {
         Flags {
             s: v / 128 % 2 == 1,
             x: v / 64 % 2 == 1,
@@ -33,18 +30,33 @@ impl Flags {
             c: v % 2 == 1,
         }
     }
+}
+
+impl From<Flags> for u8 {
+    ghost from_gives = { λ f v. v ≡ byte_of f };
+
+    fn from(f: Flags) -> u8 {
+        128 * u8::from(f.s)
+            + 64 * u8::from(f.x)
+            + 32 * u8::from(f.h)
+            + 16 * u8::from(f.i)
+            + 8 * u8::from(f.n)
+            + 4 * u8::from(f.z)
+            + 2 * u8::from(f.v)
+            + u8::from(f.c)
+    }
+}
+
+impl Flags {
+    pub fn from_byte(v: u8) -> Flags
+        ensures { result ≡ flags_of v }
+    {
+        Flags::from(v)
+    }
 
     pub fn to_byte(self) -> u8
         ensures { result ≡ byte_of self }
     {
-        let s = one(self.s);
-        let x = one(self.x);
-        let h = one(self.h);
-        let i = one(self.i);
-        let n = one(self.n);
-        let z = one(self.z);
-        let v = one(self.v);
-        let c = one(self.c);
-        128 * s + 64 * x + 32 * h + 16 * i + 8 * n + 4 * z + 2 * v + c
+        u8::from(self)
     }
 }

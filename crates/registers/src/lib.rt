@@ -68,7 +68,7 @@ impl Registers {
         Registers {
             x: d.x,
             y: d.y,
-            sp: sp,
+            sp,
             pc: entry,
             lowest: sp,
             a: d.a,
@@ -84,135 +84,68 @@ impl Registers {
         (self.a as u16) * 256 + (self.b as u16)
     }
 
-    pub fn with_a(self, v: u8, flags: u8) -> Registers
-        ensures { result ≡ with_data self (with_a (data_of self) v flags) }
+    pub fn with_a(self, a: u8, flags: u8) -> Registers
+        ensures { result ≡ with_data self (with_a (data_of self) a flags) }
+    {
+        Registers { a, flags, ..self }
+    }
+
+    pub fn with_b(self, b: u8, flags: u8) -> Registers
+        ensures { result ≡ with_data self (with_b (data_of self) b flags) }
+    {
+        Registers { b, flags, ..self }
+    }
+
+    pub fn with_d(self, d: u16, flags: u8) -> Registers
+        ensures { result ≡ with_data self (with_d (data_of self) d flags) }
     {
         Registers {
-            x: self.x,
-            y: self.y,
-            sp: self.sp,
-            pc: self.pc,
-            lowest: self.lowest,
-            a: v,
-            b: self.b,
-            flags: flags,
+            a: (d / 256) as u8,
+            b: (d % 256) as u8,
+            flags,
+            ..self
         }
     }
 
-    pub fn with_b(self, v: u8, flags: u8) -> Registers
-        ensures { result ≡ with_data self (with_b (data_of self) v flags) }
+    pub fn with_x(self, x: u16, flags: u8) -> Registers
+        ensures { result ≡ with_data self (with_x (data_of self) x flags) }
     {
-        Registers {
-            x: self.x,
-            y: self.y,
-            sp: self.sp,
-            pc: self.pc,
-            lowest: self.lowest,
-            a: self.a,
-            b: v,
-            flags: flags,
-        }
+        Registers { x, flags, ..self }
     }
 
-    pub fn with_d(self, v: u16, flags: u8) -> Registers
-        ensures { result ≡ with_data self (with_d (data_of self) v flags) }
+    pub fn with_y(self, y: u16, flags: u8) -> Registers
+        ensures { result ≡ with_data self (with_y (data_of self) y flags) }
     {
-        Registers {
-            x: self.x,
-            y: self.y,
-            sp: self.sp,
-            pc: self.pc,
-            lowest: self.lowest,
-            a: (v / 256) as u8,
-            b: (v % 256) as u8,
-            flags: flags,
-        }
-    }
-
-    pub fn with_x(self, v: u16, flags: u8) -> Registers
-        ensures { result ≡ with_data self (with_x (data_of self) v flags) }
-    {
-        Registers {
-            x: v,
-            y: self.y,
-            sp: self.sp,
-            pc: self.pc,
-            lowest: self.lowest,
-            a: self.a,
-            b: self.b,
-            flags: flags,
-        }
-    }
-
-    pub fn with_y(self, v: u16, flags: u8) -> Registers
-        ensures { result ≡ with_data self (with_y (data_of self) v flags) }
-    {
-        Registers {
-            x: self.x,
-            y: v,
-            sp: self.sp,
-            pc: self.pc,
-            lowest: self.lowest,
-            a: self.a,
-            b: self.b,
-            flags: flags,
-        }
+        Registers { y, flags, ..self }
     }
 
     pub fn with_flags(self, flags: u8) -> Registers
         ensures { result ≡ with_data self (with_flags (data_of self) flags) }
     {
-        Registers {
-            x: self.x,
-            y: self.y,
-            sp: self.sp,
-            pc: self.pc,
-            lowest: self.lowest,
-            a: self.a,
-            b: self.b,
-            flags: flags,
-        }
+        Registers { flags, ..self }
     }
 
     pub fn with_pc(self, pc: u16) -> Registers
         ensures { result ≡ with_pc self pc }
     {
-        self.with_pc_sp(pc, self.sp)
+        Registers { pc, ..self }
     }
 
     pub fn with_sp(self, sp: u16) -> Registers
         ensures { result ≡ with_sp self sp }
     {
-        self.with_pc_sp(self.pc, sp)
+        Registers { sp, ..self }
     }
 
     pub fn with_pc_sp(self, pc: u16, sp: u16) -> Registers
         ensures { result ≡ with_pc_sp self pc sp }
     {
-        Registers {
-            x: self.x,
-            y: self.y,
-            sp: sp,
-            pc: pc,
-            lowest: self.lowest,
-            a: self.a,
-            b: self.b,
-            flags: self.flags,
-        }
+        Registers { pc, sp, ..self }
     }
 
     pub fn with_lowest(self, lowest: u16) -> Registers
         ensures { result ≡ with_lowest self lowest }
     {
-        Registers {
-            x: self.x,
-            y: self.y,
-            sp: self.sp,
-            pc: self.pc,
-            lowest: lowest,
-            a: self.a,
-            b: self.b,
-            flags: self.flags,
-        }
+        Registers { lowest, ..self }
     }
 }

@@ -4,20 +4,23 @@ ghost use Rattle.std.specs.Prelude.{◌≡◌};
 ghost use Rattle.registers.specs.Word.{wrapping_add, wrapping_sub, target_of, smaller_of};
 
 // n past a.
+#[tactic(auto, unfolding(crate::specs::Word::wrapping_add))]
 pub fn wrapping_add(a: u16, n: u16) -> u16
     ensures { result ≡ wrapping_add a n }
 {
-    std::num::wrapping_add_u16(a, n)
+    a.wrapping_add(n)
 }
 
 // n before a.
+#[tactic(auto, unfolding(crate::specs::Word::wrapping_sub))]
 pub fn wrapping_sub(a: u16, n: u16) -> u16
     ensures { result ≡ wrapping_sub a n }
 {
-    std::num::wrapping_sub_u16(a, n)
+    a.wrapping_sub(n)
 }
 
 // Where a branch by a signed offset goes.
+#[tactic(auto, unfolding(crate::specs::Word::target_of))]
 pub fn target(next: u16, d: u8) -> u16
     ensures { result ≡ target_of next d }
 {
@@ -31,5 +34,5 @@ pub fn target(next: u16, d: u8) -> u16
 pub fn smaller(a: u16, b: u16) -> u16
     ensures { result ≡ smaller_of a b }
 {
-    if a < b { a } else { b }
+    a.min(b)
 }
