@@ -1,41 +1,30 @@
 // An inner crate: the marks of a ticket by address, for the desk stepper.
 #![tactic(auto)]
 
-ghost use Rattle.std.specs.Prelude.{◌≡◌, ◌≤◌, ◌<◌, get_or};
+ghost use Rattle.std.specs.Prelude.{◌≡◌, ◌<◌, ◌==◌, IfSome, get_or, position, take};
+ghost use Rattle.std.specs.Option.{option_map};
 ghost use Rattle.ticket.specs.Fields.{blank_mark};
 
 use commands::command::Claim;
-use ticket::fields::{Ticket, blank};
+use ticket::fields::Ticket;
 
-// Where the mark of an address stands; 4,096 where there is none.
-pub fn index_of(t: Ticket, a: u16) -> usize
-    ensures { (result ≤ 4096) × (result < 4096 → (get_or t.marks result blank_mark).address ≡ a) }
+// Where the mark of an address stands. It is searched from the first on: nothing says of any ticket that its marks rise.
+pub fn index_of(t: &Ticket, a: u16) -> Option<usize>
+    ensures first { result ≡ position (λ m. m.address == a) (take t.now.count t.now.marks) }
+    ensures found { IfSome result (λ i. (i < 4096)
+        × ((get_or t.now.marks i blank_mark).address ≡ a)) }
 {
-    let marks = t.marks;
-    let count = t.count as usize;
-    let mut i = 0;
-    while i < 4096 {
-        if count <= i {
-            return 4096;
-        }
-        let m = marks[i];
-        if m.address == a {
-            return i;
-        }
-        i += 1;
-    }
-    4096
+    t.marks
+        .iter()
+        .take(t.count as usize)
+        .position(|m| m.address == a)
 }
 
-// All zero where there is none: at every instruction of an accepted routine there is one.
-pub fn claim_at(t: Ticket, i: usize) -> Claim
-    ensures { result ≡ (get_or t.marks i blank_mark).claim }
+// What it claims: at every instruction of an accepted routine there is a mark.
+pub fn claim_at(t: &Ticket, a: u16) -> Option<Claim>
+    ensures { result ≡ option_map (λ i. (get_or t.now.marks i blank_mark).claim)
+        (position (λ m. m.address == a) (take t.now.count t.now.marks)) }
 {
-    if 4096 <= i {
-        let m = blank();
-        return m.claim;
-    }
-    let marks = t.marks;
-    let m = marks[i];
-    m.claim
+    let i = index_of(t, a)?;
+    Some(t.marks[i].claim)
 }
