@@ -1,10 +1,7 @@
 pub mod Tests
-pub mod Search
-pub mod ClaimFound
+pub mod ClaimAt
 pub mod MarkCause
 pub mod WholeCause
 pub mod VerdictByMarks
-pub mod Held
-pub mod Addresses
 pub mod ShapeFound
 pub mod ShapesApart

@@ -3,8 +3,7 @@
 
 pub mod shape; // what the rules ask of an instruction: successors, bytes pushed and pulled, writes, cycles
 pub mod image; // the shape of the instruction at an address of an image
-mod find; // an address in a rising list
-mod at_mark; // the instruction at a mark, and the marks of its successors
+mod marks; // the claim of the mark at an address
 mod mark; // causes 10 to 17, at a mark
 mod whole; // causes 18 to 20, and acceptance
 pub mod verdict; // cause 9, each mark in rising address, then the whole

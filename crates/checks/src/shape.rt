@@ -1,8 +1,7 @@
 // The shape of an instruction: what the ticket rules ask about it.
-ghost use Rattle.std.specs.Prelude.{◌≡◌, [], ◌∷◌};
-ghost use Rattle.registers.specs.Word.{wrapping_add};
-ghost use Rattle.rules.specs.Shape.{leads, pushes, pulls, stores, writes, jumps, calls, shape_by};
-ghost use Rattle.checks.specs.inner.Said.{successors_said, writes_said, shape_said};
+ghost use Rattle.std.specs.Prelude.{◌≡◌};
+ghost use Rattle.rules.specs.Shape.{leads, pushes, pulls, stores, shape_by};
+ghost use Rattle.checks.specs.inner.Said.{onward_of, successors_said, writes_said, shape_said};
 
 use instructions::form::Form;
 use opcodes::instruction::Address;
@@ -52,27 +51,31 @@ pub enum Shape {
     Nothing,
 }
 
-fn leads(next: Successors, k: Cycles) -> Shape
-    ensures { shape_said result ≡ leads (successors_said next) k.0 }
+// Only goes on.
+fn onward(next: Successors, cycles: Cycles) -> Ordinary
+    ensures { result ≡ onward_of next cycles }
 {
-    Shape::Ordinary(Ordinary {
+    Ordinary {
         next,
         pushed: StackBytes(0),
         pulled: StackBytes(0),
         writes: Writes::Nowhere,
-        cycles: k,
-    })
+        cycles,
+    }
+}
+
+fn leads(next: Successors, k: Cycles) -> Shape
+    ensures { shape_said result ≡ leads (successors_said next) k.0 }
+{
+    Shape::Ordinary(onward(next, k))
 }
 
 fn pushes(n: u16, after: u16, k: Cycles) -> Shape
     ensures { shape_said result ≡ pushes n after k.0 }
 {
     Shape::Ordinary(Ordinary {
-        next: Successors::One(after),
         pushed: StackBytes(n),
-        pulled: StackBytes(0),
-        writes: Writes::Nowhere,
-        cycles: k,
+        ..onward(Successors::One(after), k)
     })
 }
 
@@ -80,11 +83,8 @@ fn pulls(n: u16, after: u16, k: Cycles) -> Shape
     ensures { shape_said result ≡ pulls n after k.0 }
 {
     Shape::Ordinary(Ordinary {
-        next: Successors::One(after),
-        pushed: StackBytes(0),
         pulled: StackBytes(n),
-        writes: Writes::Nowhere,
-        cycles: k,
+        ..onward(Successors::One(after), k)
     })
 }
 
@@ -92,66 +92,20 @@ fn stores(writes: Writes, after: u16, k: Cycles) -> Shape
     ensures { shape_said result ≡ stores (writes_said writes) after k.0 }
 {
     Shape::Ordinary(Ordinary {
-        next: Successors::One(after),
-        pushed: StackBytes(0),
-        pulled: StackBytes(0),
         writes,
-        cycles: k,
+        ..onward(Successors::One(after), k)
     })
 }
 
-fn writes_byte(p: Address, after: u16, k: Cycles) -> Shape
-    ensures { shape_said result ≡ writes p (λ a. a ∷ []) after k.0 }
-{
-    match p {
-        Address::Fixed(a) => stores(Writes::Byte(a), after, k),
-        Address::IndexedX(_) => Shape::Forbidden,
-        Address::IndexedY(_) => Shape::Forbidden,
-    }
-}
-
-fn writes_word(p: Address, after: u16, k: Cycles) -> Shape
-    ensures { shape_said result ≡ writes p (λ a. a ∷ wrapping_add a 1 ∷ []) after k.0 }
-{
-    match p {
-        Address::Fixed(a) => stores(Writes::Word(a), after, k),
-        Address::IndexedX(_) => Shape::Forbidden,
-        Address::IndexedY(_) => Shape::Forbidden,
-    }
-}
-
-fn jumps_to(p: Address, k: Cycles) -> Shape
-    ensures { shape_said result ≡ jumps p k.0 }
-{
-    match p {
-        Address::Fixed(a) => leads(Successors::One(a), k),
-        Address::IndexedX(_) => Shape::Forbidden,
-        Address::IndexedY(_) => Shape::Forbidden,
-    }
-}
-
-fn calls_to(p: Address, after: u16, k: Cycles) -> Shape
-    ensures { shape_said result ≡ calls p after k.0 }
-{
-    match p {
-        Address::Fixed(a) => Shape::Call(Call {
-            target: a,
-            after,
-            cycles: k,
-        }),
-        Address::IndexedX(_) => Shape::Forbidden,
-        Address::IndexedY(_) => Shape::Forbidden,
-    }
-}
-
-// By the form, the address after the instruction and its cycles.
+// By the form, the address after the instruction and its cycles. Indexed writes, jumps and calls are kept out: where
+// they lead is not known.
 pub fn shape_by(f: Form, after: u16, k: Cycles) -> Shape
     ensures { shape_said result ≡ shape_by f after k.0 }
 {
     match f {
         Form::Computes => leads(Successors::One(after), k),
-        Form::StoresByte(p) => writes_byte(p, after, k),
-        Form::StoresWord(p) => writes_word(p, after, k),
+        Form::StoresByte(Address::Fixed(a)) => stores(Writes::Byte(a), after, k),
+        Form::StoresWord(Address::Fixed(a)) => stores(Writes::Word(a), after, k),
         Form::PushesByte => pushes(1, after, k),
         Form::PushesWord => pushes(2, after, k),
         Form::PullsByte => pulls(1, after, k),
@@ -159,12 +113,17 @@ pub fn shape_by(f: Form, after: u16, k: Cycles) -> Shape
         Form::Reserves => pushes(1, after, k),
         Form::Releases => pulls(1, after, k),
         Form::Branches(t) => leads(Successors::Two(t, after), k),
-        Form::Jumps(p) => jumps_to(p, k),
-        Form::Calls(p) => calls_to(p, after, k),
+        Form::Jumps(Address::Fixed(a)) => leads(Successors::One(a), k),
+        Form::Calls(Address::Fixed(target)) => Shape::Call(Call {
+            target,
+            after,
+            cycles: k,
+        }),
         Form::Returns => Shape::Return(k),
-        Form::MovesSp => Shape::Forbidden,
-        Form::Interrupts => Shape::Forbidden,
-        Form::Resumes => Shape::Forbidden,
-        Form::Waits => Shape::Forbidden,
+        Form::StoresByte(Address::IndexedX(_) | Address::IndexedY(_))
+        | Form::StoresWord(Address::IndexedX(_) | Address::IndexedY(_))
+        | Form::Jumps(Address::IndexedX(_) | Address::IndexedY(_))
+        | Form::Calls(Address::IndexedX(_) | Address::IndexedY(_)) => Shape::Forbidden,
+        Form::MovesSp | Form::Interrupts | Form::Resumes | Form::Waits => Shape::Forbidden,
     }
 }

@@ -2,14 +2,13 @@
 -- place.
 -- Assumes nothing.
 use Rattle.std.specs.Prelude.{ℕ, ◌+◌, Bool, true, false, cond, ◌&&◌, List, [], ◌∷◌, ◌++◌, eqb, leb, length}
-use Rattle.std.proofs.Math.Option.{Option, none, some}
+use Rattle.std.specs.Prelude.{Option, Some, None, Ok, Err}
 use Rattle.commands.specs.Header.{past_of, holds}
 use Rattle.commands.specs.declared.command.Claim.{Claim}
 use Rattle.ticket.specs.declared.fields.Mark.{Mark}
 use Rattle.ticket.specs.Fields.{Fields, ReadOutcome, read, refused}
 use Rattle.ticket.specs.Read.{refusal, read_of}
-use Rattle.answers.specs.declared.Verdict.{Verdict}
-use Rattle.answers.specs.declared.Verdict.TheVariants.{Accept, Refuse}
+use Rattle.answers.specs.Verdict.{Verdict}
 use Rattle.rules.specs.Shape.{Ordinary, Shape, ordinary, call, return, forbidden, nothing, shape_of}
 use Rattle.rules.specs.Shape.{instruction_size}
 use Rattle.rules.specs.Marks.{claim_at, image_from}
@@ -26,20 +25,20 @@ check n p b = record { number = n; place = p; passes = b }
 -- the first that fails, or what follows if none does
 abbrev pub first_failing : List Check → Verdict → Verdict
 first_failing [] v = v
-first_failing (c ∷ cs) v = cond c.passes (first_failing cs v) (Refuse (refusal c.number c.place))
+first_failing (c ∷ cs) v = cond c.passes (first_failing cs v) (Err (refusal c.number c.place))
 
 abbrev pub all : (ℕ → Bool) → List ℕ → Bool
 all p [] = true
 all p (a ∷ l) = p a && all p l
 
 abbrev pub is_marked : Option Claim → Bool
-is_marked none = false
-is_marked (some c) = true
+is_marked None = false
+is_marked (Some c) = true
 
 -- a test of the claim at an address; where there is none, cause 14 or 18 says so
 abbrev pub on_mark : (Claim → Bool) → Option Claim → Bool
-on_mark p none = true
-on_mark p (some c) = p c
+on_mark p None = true
+on_mark p (Some c) = p c
 
 -- the claim c at a successor of an ordinary instruction, against the mark's own claim k
 abbrev pub depth_agrees : Claim → Ordinary → Claim → Bool
@@ -170,15 +169,15 @@ checks_of f image =
 
 -- where no check fails there is a claim at the entry
 abbrev pub accept_of : ℕ → Option Claim → Verdict
-accept_of entry none = Refuse (refusal 18 entry)
-accept_of entry (some c) = Accept entry c.cost (record { 0 = c.need.0 + 2 })
+accept_of entry None = Err (refusal 18 entry)
+accept_of entry (Some c) = Ok (record { entry = entry; cost = c.cost; stack = record { 0 = c.need.0 + 2 } })
 
 unfoldable pub verdict_on : Fields → List ℕ → Verdict
 verdict_on f image =
     first_failing (checks_of f image) (accept_of f.header.entry (claim_at f.marks f.header.entry))
 
 abbrev pub verdict_by : ReadOutcome → List ℕ → Verdict
-verdict_by (refused r) image = Refuse r
+verdict_by (refused r) image = Err r
 verdict_by (read f) image = verdict_on f image
 
 -- of a ticket's bytes and an image's: 1 to 8 and 29 from reading, then 9, then 10 to 17 at each mark, then 18 to 20

@@ -1,10 +1,8 @@
 -- Every ticket rule, stated without order or computation (document 01, "Rules at a mark", and causes 9 to 20; those at
 -- reading are `Readable`).
 -- Assumes nothing.
-use Rattle.std.specs.Prelude.{ℕ, ◌+◌, ◌≤◌, ◌≡◌, List, length}
-use Rattle.std.proofs.Math.Option.{some}
-use Rattle.registers.specs.declared.Cycles.{Cycles}
-use Rattle.registers.specs.declared.StackBytes.{StackBytes}
+use Rattle.std.specs.Prelude.{ℕ, ◌+◌, ◌≤◌, ◌≡◌, List, length, Some}
+use Rattle.answers.specs.declared.Acceptance.{Acceptance}
 use Rattle.commands.specs.declared.command.Claim.{Claim}
 use Rattle.ticket.specs.declared.fields.Mark.{Mark}
 use Rattle.ticket.specs.Fields.{Fields}
@@ -19,7 +17,7 @@ use Rattle.rules.specs.Marks.{claim_at, image_from}
 -- at a successor of an ordinary instruction
 pub record Follows (ms : List Mark) (k : Claim) (o : Ordinary) (a : ℕ) : Type 0 where
   pub there : Claim
-  pub marked : claim_at ms a ≡ some there
+  pub marked : claim_at ms a ≡ Some there
   pub depth : there.depth.0 + o.pulled ≡ k.depth.0 + o.pushed
   pub cost : o.cycles + there.cost.0 ≤ k.cost.0
   pub need : o.pushed + there.need.0 ≤ k.need.0 + o.pulled
@@ -32,8 +30,8 @@ pub record OrdinaryRules (f : Fields) (k : Claim) (o : Ordinary) : Type 0 where
 pub record CallRules (f : Fields) (k : Claim) (c : Call) : Type 0 where
   pub there : Claim
   pub back : Claim
-  pub there_marked : claim_at f.marks c.target ≡ some there
-  pub back_marked : claim_at f.marks c.after ≡ some back
+  pub there_marked : claim_at f.marks c.target ≡ Some there
+  pub back_marked : claim_at f.marks c.after ≡ Some back
   pub there_depth : there.depth.0 ≡ 0
   pub back_depth : back.depth.0 ≡ k.depth.0
   pub cost : c.cycles + there.cost.0 + back.cost.0 ≤ k.cost.0
@@ -62,18 +60,18 @@ pub record Accepted (f : Fields) (image : List ℕ) : Type 0 where
   pub image_length : length image ≡ f.header.code.length
   pub each : Every (RulesAt f image) f.marks
   pub start : Claim
-  pub start_marked : claim_at f.marks f.header.entry ≡ some start
+  pub start_marked : claim_at f.marks f.header.entry ≡ Some start
   pub start_depth : start.depth.0 ≡ 0
   pub start_cost : start.cost.0 ≤ f.header.limit.0
   pub start_need : start.need.0 + 2 ≤ f.header.stack.length
 
 -- what an acceptance says: the ticket's bytes state fields of which every rule holds, and the answer is the entry, its
 -- cost and its need + 2
-pub record Certified (ticket image : List ℕ) (entry : ℕ) (cost : Cycles) (stack : StackBytes) : Type 0 where
+pub record Certified (ticket image : List ℕ) (answer : Acceptance) : Type 0 where
   pub fields : Fields
   pub bytes : Spells fields ticket
   pub fits : FitsFields fields
   pub accepted : Accepted fields image
-  pub entry_is : entry ≡ fields.header.entry
-  pub cost_is : cost ≡ accepted.start.cost
-  pub stack_is : stack.0 ≡ accepted.start.need.0 + 2
+  pub entry_is : answer.entry ≡ fields.header.entry
+  pub cost_is : answer.cost ≡ accepted.start.cost
+  pub stack_is : answer.stack.0 ≡ accepted.start.need.0 + 2

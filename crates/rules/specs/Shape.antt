@@ -1,6 +1,6 @@
 -- What the ticket rules ask of an instruction, by its form (document 01, "Rules at a mark").
 -- Assumes nothing.
-use Rattle.std.specs.Prelude.{ℕ, List, [], ◌∷◌}
+use Rattle.std.specs.Prelude.{ℕ, List, [], ◌∷◌, Option, Some, None}
 use Rattle.registers.specs.Word.{wrapping_add}
 use Rattle.opcodes.specs.Tables.{length_at, cycles_at}
 use Rattle.opcodes.specs.Decode.{Bytes, place_in, decode_of}
@@ -8,7 +8,6 @@ use Rattle.instructions.specs.Entry.{form_of}
 use Rattle.opcodes.specs.declared.instruction.Address.{Address}
 use Rattle.opcodes.specs.declared.instruction.Address.TheVariants.{Fixed, IndexedX, IndexedY}
 use Rattle.opcodes.specs.declared.instruction.Decoded.{Decoded}
-use Rattle.opcodes.specs.declared.instruction.Decoded.TheVariants.{Instruction, Nothing}
 use Rattle.instructions.specs.declared.form.Form.{Form}
 use Rattle.instructions.specs.declared.form.Form.TheVariants.{Computes, StoresByte, StoresWord, PushesByte, PushesWord}
 use Rattle.instructions.specs.declared.form.Form.TheVariants.{PullsByte, PullsWord, Reserves, Releases, Branches}
@@ -93,10 +92,10 @@ shape_by Interrupts after k = forbidden
 shape_by Resumes after k = forbidden
 shape_by Waits after k = forbidden
 
-abbrev pub shape_in : ℕ → Decoded → ℕ → Shape
-shape_in p Nothing a = nothing
-shape_in p (Instruction act o) a =
-    let after = wrapping_add a (length_at p) in shape_by (form_of act o after) after (cycles_at p)
+abbrev pub shape_in : ℕ → Option Decoded → ℕ → Shape
+shape_in p None a = nothing
+shape_in p (Some d) a =
+    let after = wrapping_add a (length_at p) in shape_by (form_of d.action d.operand after) after (cycles_at p)
 
 -- of the instruction at address a, whose bytes are f; the step decodes with the same definition
 unfoldable pub shape_of : Bytes → ℕ → Shape

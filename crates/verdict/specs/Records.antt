@@ -1,18 +1,14 @@
 -- The verdict on a routine whose image comes as an S-record file, and what it promises (document 02, a; demands 2 and
 -- 3).
 -- Assumes nothing.
-use Rattle.std.specs.Prelude.{ℕ, ◌-◌, ◌≡◌, ◌↔◌, ◌⊎◌, List, length}
-use Rattle.registers.specs.declared.Cycles.{Cycles}
-use Rattle.registers.specs.declared.StackBytes.{StackBytes}
+use Rattle.std.specs.Prelude.{ℕ, ◌-◌, ◌≡◌, ◌↔◌, ◌⊎◌, List, length, Result, Ok, Err}
+use Rattle.answers.specs.declared.Acceptance.{Acceptance}
 use Rattle.answers.specs.declared.Refusal.{Refusal}
-use Rattle.answers.specs.declared.Verdict.{Verdict}
-use Rattle.answers.specs.declared.Verdict.TheVariants.{Accept, Refuse}
+use Rattle.answers.specs.Verdict.{Verdict}
 use Rattle.ticket.specs.Fields.{Fields, ReadOutcome, read, refused}
 use Rattle.ticket.specs.Read.{read_of}
 use Rattle.ticket.specs.Rules.{Between}
 use Rattle.verdict.specs.Promise.{VerdictNumber}
-use Rattle.records.specs.declared.answer.Loaded.{Loaded}
-use Rattle.records.specs.declared.answer.Loaded.TheVariants as Loaded
 use Rattle.records.specs.Record.{Names}
 use Rattle.records.specs.Read.{named, file_of}
 use Rattle.records.specs.Load.{AfterLoad, load_of}
@@ -29,13 +25,13 @@ abbrev pub after_verdict : Verdict → List ℕ → AfterVerdict
 after_verdict v image = record { answer = v; image = image }
 
 -- what the file leaves is judged as an image is; the buffer stays the image whatever the marks say
-abbrev pub loaded_verdict : Fields → Loaded → List ℕ → AfterVerdict
-loaded_verdict f (Loaded.Refused r) image = after_verdict (Refuse r) image
-loaded_verdict f Loaded.Done image = after_verdict (verdict_on f image) image
+abbrev pub loaded_verdict : Fields → Result Unit Refusal → List ℕ → AfterVerdict
+loaded_verdict f (Err r) image = after_verdict (Err r) image
+loaded_verdict f (Ok done) image = after_verdict (verdict_on f image) image
 
 -- 1 to 8 and 29 of the ticket; 25 to 27 of the file, and 9 of the buffer; then 10 to 20
 abbrev pub records_verdict_by : ReadOutcome → List ℕ → List ℕ → AfterVerdict
-records_verdict_by (refused r) file buffer = after_verdict (Refuse r) buffer
+records_verdict_by (refused r) file buffer = after_verdict (Err r) buffer
 records_verdict_by (read f) file buffer =
     let loaded = load_of f.header.code file buffer in loaded_verdict f loaded.answer loaded.image
 
@@ -67,40 +63,37 @@ KeepsOtherwise ticket file buffer =
     ((image : List ℕ) → NamedInto ticket file buffer image → ⊥) → (records_verdict_of ticket file buffer).image ≡ buffer
 
 -- the ticket is certified for an image, which the file names and the buffer has room for
-pub record FileCertified (ticket file buffer : List ℕ) (entry : ℕ) (cost : Cycles) (stack : StackBytes) : Type 0 where
+pub record FileCertified (ticket file buffer : List ℕ) (answer : Acceptance) : Type 0 where
   pub image : List ℕ
-  pub certified : Certified ticket image entry cost stack
+  pub certified : Certified ticket image answer
   pub names : Names certified.fields.header.code file image
   pub room : length buffer ≡ length image
 
 -- demand 2: it accepts if and only if every ticket rule holds of the image that the file names
 abbrev pub FileAcceptsExactly : List ℕ → List ℕ → List ℕ → Type 0
 FileAcceptsExactly ticket file buffer =
-    (entry : ℕ) (cost : Cycles) (stack : StackBytes)
-    → ((records_verdict_of ticket file buffer).answer ≡ Accept entry cost stack)
-    ↔ FileCertified ticket file buffer entry cost stack
+    (a : Acceptance) → ((records_verdict_of ticket file buffer).answer ≡ Ok a) ↔ FileCertified ticket file buffer a
 
 -- demand 3: where it accepts, the image that is now in the buffer is the one that the file names, and comes home
 abbrev pub FileComesHome : List ℕ → List ℕ → List ℕ → Type 0
 FileComesHome ticket file buffer =
     let image = (records_verdict_of ticket file buffer).image in
-    (entry : ℕ) (cost : Cycles) (stack : StackBytes)
-    → (records_verdict_of ticket file buffer).answer ≡ Accept entry cost stack
-    → (C : Certified ticket image entry cost stack)
+    (a : Acceptance) → (records_verdict_of ticket file buffer).answer ≡ Ok a
+    → (C : Certified ticket image a)
     × Names C.fields.header.code file image
-    × Demand3 C.fields image cost.0 (stack.0 - 2)
+    × Demand3 C.fields image a.cost.0 (a.stack.0 - 2)
 
 -- of a ticket that is read, 25 to 27 is answered if and only if the file names no image
 abbrev pub FileRefusedExactly : List ℕ → List ℕ → List ℕ → Type 0
 FileRefusedExactly ticket file buffer =
     (f : Fields) → read_of ticket ≡ read f
-    → ((r : Refusal) × ((records_verdict_of ticket file buffer).answer ≡ Refuse r) × Between 25 27 r.number)
+    → ((r : Refusal) × ((records_verdict_of ticket file buffer).answer ≡ Err r) × Between 25 27 r.number)
     ↔ ((image : List ℕ) → Names f.header.code file image → ⊥)
 
 -- a refusal's number is the verdict's, or 25 to 27
 abbrev pub FileRefusalsNumbered : List ℕ → List ℕ → List ℕ → Type 0
 FileRefusalsNumbered ticket file buffer =
-    (r : Refusal) → (records_verdict_of ticket file buffer).answer ≡ Refuse r
+    (r : Refusal) → (records_verdict_of ticket file buffer).answer ≡ Err r
     → VerdictNumber r.number ⊎ Between 25 27 r.number
 
 abbrev pub FilePromised : List ℕ → List ℕ → List ℕ → Type 0

@@ -1,7 +1,7 @@
 -- A routine judged and, where it is accepted, started; and that what is started comes home (document 01, "Start", "The
 -- way home": demand 3).
 -- Assumes nothing.
-use Rattle.std.specs.Prelude.{ℕ, ◌-◌, ◌≡◌, cond, List, eqb, length}
+use Rattle.std.specs.Prelude.{ℕ, ◌-◌, ◌≡◌, cond, List, eqb, length, Ok, Err}
 use Rattle.registers.specs.declared.Cycles.{Cycles}
 use Rattle.registers.specs.declared.Data.{Data}
 use Rattle.registers.specs.declared.Registers.{Registers}
@@ -9,13 +9,10 @@ use Rattle.registers.specs.declared.StackBytes.{StackBytes}
 use Rattle.ticket.specs.Read.{refusal}
 use Rattle.rules.specs.Rules.{Certified}
 use Rattle.rules.specs.Claim.{ComesHome}
-use Rattle.verdict.specs.Start.{started_of, loaded_of}
-use Rattle.verdict.specs.Certification.{certification_of}
+use Rattle.verdict.specs.Start.{Started, started_of, loaded_of}
+use Rattle.verdict.specs.Certification.{Certification, certification_of}
 use Rattle.verdict.specs.declared.Certificate.{Certificate}
-use Rattle.verdict.specs.declared.Certification.{Certification}
-use Rattle.verdict.specs.declared.Certification.TheVariants as Certification
-use Rattle.verdict.specs.declared.Started.{Started}
-use Rattle.verdict.specs.declared.Started.TheVariants.{At, Refused}
+use Rattle.verdict.specs.declared.started.Start.{Start}
 
 -- the answer and the memory afterwards
 pub record AfterStart : Type 0 where
@@ -26,15 +23,15 @@ abbrev pub after_start : Started → List ℕ → AfterStart
 after_start a m = record { answer = a; memory = m }
 
 abbrev pub start_routine_by : Certification → Data → List ℕ → List ℕ → AfterStart
-start_routine_by (Certification.Refused r) d image m = after_start (Refused r) m
-start_routine_by (Certification.Granted c) d image m =
+start_routine_by (Err r) d image m = after_start (Err r) m
+start_routine_by (Ok c) d image m =
     after_start (started_of c.header d image m) (loaded_of c.header image m)
 
 -- 21 is checked first; then what the verdict refuses is refused, and alters nothing
 unfoldable pub start_routine_of : List ℕ → List ℕ → Data → List ℕ → AfterStart
 start_routine_of ticket image d m =
     cond (eqb (length m) 65536) (start_routine_by (certification_of ticket image) d image m)
-    (after_start (Refused (refusal 21 0)) m)
+    (after_start (Err (refusal 21 0)) m)
 
 -- from the registers and the memory that are answered, the routine comes to the home that is answered, which is the
 -- ticket's
@@ -42,20 +39,20 @@ pub record StartCertified (ticket image : List ℕ) (r : Registers) (home : ℕ)
   pub entry : ℕ
   pub cost : Cycles
   pub stack : StackBytes
-  pub certified : Certified ticket image entry cost stack
+  pub certified : Certified ticket image (record { entry = entry; cost = cost; stack = stack })
   pub home_is : home ≡ certified.fields.header.home
   pub comes_home : ComesHome certified.fields (record { home = home }) cost.0 (stack.0 - 2) r m
 
 abbrev pub StartedComesHome : List ℕ → List ℕ → Data → List ℕ → Type 0
 StartedComesHome ticket image d m =
-    (r : Registers) (home : ℕ) → (start_routine_of ticket image d m).answer ≡ At r home →
-    StartCertified ticket image r home (start_routine_of ticket image d m).memory
+    (s : Start) → (start_routine_of ticket image d m).answer ≡ Ok s →
+    StartCertified ticket image s.registers s.home (start_routine_of ticket image d m).memory
 
 -- a start by the certificate's header succeeds and comes home, within its figures
 abbrev pub StartComesHome : List ℕ → List ℕ → Certificate → Data → List ℕ → Type 0
 StartComesHome ticket image c d m =
     (r : Registers)
-    × (started_of c.header d image m ≡ At r c.header.home)
+    × (started_of c.header d image m ≡ Ok (record { registers = r; home = c.header.home }))
     × (C : StartCertified ticket image r c.header.home (loaded_of c.header image m))
     × (C.cost ≡ c.cost)
     × (C.stack ≡ c.stack)
@@ -63,5 +60,5 @@ StartComesHome ticket image c d m =
 -- what is certified can be started again and again without being judged: every start by its header comes home
 abbrev pub CertificateComesHome : List ℕ → List ℕ → Type 0
 CertificateComesHome ticket image =
-    (c : Certificate) → certification_of ticket image ≡ Certification.Granted c
+    (c : Certificate) → certification_of ticket image ≡ Ok c
     → (d : Data) (m : List ℕ) → length m ≡ 65536 → StartComesHome ticket image c d m

@@ -1,7 +1,7 @@
 -- The start: the memory, the registers and home, and that they are what the claim about the whole way supposes
 -- (document 01, "Start"; document 02, e).
 -- Assumes nothing.
-use Rattle.std.specs.Prelude.{ℕ, ◌/◌, ◌%◌, ◌≡◌, cond, List, [], ◌∷◌, eqb, length}
+use Rattle.std.specs.Prelude.{ℕ, ◌/◌, ◌%◌, ◌≡◌, cond, List, [], ◌∷◌, eqb, length, Result, Ok, Err}
 use Rattle.registers.specs.declared.Data.{Data}
 use Rattle.registers.specs.Registers.{start_of}
 use Rattle.registers.specs.Word.{wrapping_add, wrapping_sub}
@@ -12,8 +12,12 @@ use Rattle.ticket.specs.Fields.{Fields}
 use Rattle.ticket.specs.Read.{refusal}
 use Rattle.rules.specs.Rules.{Accepted}
 use Rattle.rules.specs.Claim.{top_of, Loaded}
-use Rattle.verdict.specs.declared.Started.{Started}
-use Rattle.verdict.specs.declared.Started.TheVariants.{At, Refused}
+use Rattle.answers.specs.declared.Refusal.{Refusal}
+use Rattle.verdict.specs.declared.started.Start.{Start}
+
+-- where a routine starts, or a refusal
+abbrev pub Started : Type 0
+Started = Result Start Refusal
 
 -- a window's last address; of the stack window, T
 abbrev pub last_of : Window → ℕ
@@ -34,8 +38,8 @@ by_size h image m a_21 a_9 a = cond (eqb (length m) 65536) (cond (eqb (length im
 
 unfoldable pub started_of : Header → Data → List ℕ → List ℕ → Started
 started_of h d image m =
-    by_size h image m (Refused (refusal 21 0)) (Refused (refusal 9 0))
-    (At (start_of d h.entry (last_of h.stack)) h.home)
+    by_size h image m (Err (refusal 21 0)) (Err (refusal 9 0))
+    (Ok (record { registers = start_of d h.entry (last_of h.stack); home = h.home }))
 
 -- a refusal leaves every byte
 unfoldable pub loaded_of : Header → List ℕ → List ℕ → List ℕ
@@ -47,5 +51,6 @@ loaded_of h image m =
 abbrev pub StartsAsClaimed : Header → Data → List ℕ → List ℕ → Type 0
 StartsAsClaimed h d image m =
     (f : Fields) → f.header ≡ h → Accepted f image → length m ≡ 65536
-    → (started_of h d image m ≡ At (start_of d f.header.entry (top_of f)) f.header.home)
+    → (started_of h d image m
+    ≡ Ok (record { registers = start_of d f.header.entry (top_of f); home = f.header.home }))
     × Loaded f image (loaded_of h image m)

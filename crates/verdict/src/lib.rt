@@ -11,15 +11,15 @@ ghost use Rattle.verdict.specs.Certification.{certification_of};
 ghost use Rattle.verdict.specs.Routine.{after_start, start_routine_of, StartedComesHome, CertificateComesHome};
 
 use crate::load::{fill, last_of, store_home};
-use answers::{Refusal, Verdict, refuse};
+pub use crate::started::{Start, Started};
+use answers::{Acceptance, Refusal, Verdict, refuse};
 use checks::verdict::verdict_on;
 use commands::header::Header;
-use records::answer::Loaded;
 use records::load_image;
 use registers::{Cycles, Data, Registers, StackBytes};
-use ticket::answer::ReadAnswer;
 use ticket::read;
 
+pub mod started; // the registers and home, or a refusal
 mod load; // the image and home's bytes into memory
 
 // Of an accepted routine: its ticket's header, which a start goes by, and the certified figures.
@@ -31,11 +31,7 @@ pub struct Certificate {
 }
 
 // A routine judged.
-#[derive(Clone, Copy)]
-pub enum Certification {
-    Granted(Certificate),
-    Refused(Refusal),
-}
+pub type Certification = Result<Certificate, Refusal>;
 
 // Reads the ticket and judges the routine. What is certified comes home from every start by its header, without being
 // judged again.
@@ -43,23 +39,13 @@ pub fn certify(ticket: &[u8], image: &[u8]) -> Certification
     ensures { (result ≡ certification_of ticket.now image.now)
         × CertificateComesHome ticket.now image.now }
 {
-    let reading = read(ticket);
-    let answer = reading.answer;
-    match answer {
-        ReadAnswer::Refused(x) => Certification::Refused(x),
-        ReadAnswer::Read => {
-            let t = reading.ticket;
-            let header = t.header;
-            match verdict_on(t, image) {
-                Verdict::Refuse(x) => Certification::Refused(x),
-                Verdict::Accept(_, cost, stack) => Certification::Granted(Certificate {
-                    header,
-                    cost,
-                    stack,
-                }),
-            }
-        }
-    }
+    let t = read(ticket)?;
+    let a = verdict_on(&t, image)?;
+    Ok(Certificate {
+        header: t.header,
+        cost: a.cost,
+        stack: a.stack,
+    })
 }
 
 // Accepts if and only if every ticket rule holds; else the first cause in document 01's order, 29 among those at
@@ -68,14 +54,8 @@ pub fn verdict(ticket: &[u8], image: &[u8]) -> Verdict
     ensures { (result ≡ verdict_of ticket.now image.now)
         × Promised ticket.now image.now }
 {
-    match certify(ticket, image) {
-        Certification::Refused(x) => Verdict::Refuse(x),
-        Certification::Granted(c) => {
-            let cost = c.cost;
-            let stack = c.stack;
-            Verdict::Accept(c.header.entry, cost, stack)
-        }
-    }
+    let t = read(ticket)?;
+    verdict_on(&t, image)
 }
 
 // The verdict on a routine whose image is an S-record file: the first cause of the ticket (1 to 8, 29), of the file (25
@@ -85,28 +65,9 @@ pub fn verdict_of_records(ticket: &[u8], file: &[u8], image: &mut [u8]) -> Verdi
     ensures { (after_verdict result image.new ≡ records_verdict_of ticket.now file.now
         image.old) × FilePromised ticket.now file.now image.old }
 {
-    let reading = read(ticket);
-    let answer = reading.answer;
-    match answer {
-        ReadAnswer::Refused(x) => Verdict::Refuse(x),
-        ReadAnswer::Read => {
-            let t = reading.ticket;
-            let header = t.header;
-            let code = header.code;
-            match load_image(code, file, image) {
-                Loaded::Refused(x) => Verdict::Refuse(x),
-                Loaded::Done => verdict_on(t, image),
-            }
-        }
-    }
-}
-
-// The registers at the start and home, which a run is then given; or a refusal: 21 for the memory's length, 9 for the
-// image's, or the verdict's.
-#[derive(Clone, Copy)]
-pub enum Started {
-    At(Registers, u16),
-    Refused(Refusal),
+    let t = read(ticket)?;
+    load_image(t.header.code, file, image)?;
+    verdict_on(&t, image)
 }
 
 // The start, from the header of an accepted ticket: the image fills the code window and home's two bytes go to the end
@@ -116,18 +77,19 @@ pub fn start(h: Header, image: &[u8], d: Data, memory: &mut [u8]) -> Started
         × (memory.new ≡ loaded_of h image.now memory.old)
         × StartsAsClaimed h d image.now memory.old }
 {
-    let code = h.code;
-    let stack = h.stack;
-    if memory.len() != 65536 {
-        return Started::Refused(refuse(21, 0));
+    let Some(whole) = memory.as_mut_array() else {
+        return Err(refuse(21, 0));
+    };
+    if image.len() != (h.code.length as usize) {
+        return Err(refuse(9, 0));
     }
-    if image.len() != (code.length as usize) {
-        return Started::Refused(refuse(9, 0));
-    }
-    let top = last_of(stack);
-    fill(code.start, image, memory);
-    store_home(top, h.home, memory);
-    Started::At(Registers::start(d, h.entry, top), h.home)
+    let top = last_of(h.stack);
+    fill(h.code.start, image, whole);
+    store_home(top, h.home, whole);
+    Ok(Start {
+        registers: Registers::start(d, h.entry, top),
+        home: h.home,
+    })
 }
 
 // Judges a routine and, where it is accepted, starts it: what is started comes home. Else the number and place of the
@@ -137,10 +99,8 @@ pub fn start_routine(ticket: &[u8], image: &[u8], d: Data, memory: &mut [u8]) ->
         memory.old) × StartedComesHome ticket.now image.now d memory.old }
 {
     if memory.len() != 65536 {
-        return Started::Refused(refuse(21, 0));
+        return Err(refuse(21, 0));
     }
-    match certify(ticket, image) {
-        Certification::Refused(x) => Started::Refused(x),
-        Certification::Granted(c) => start(c.header, image, d, memory),
-    }
+    let c = certify(ticket, image)?;
+    start(c.header, image, d, memory)
 }

@@ -1,34 +1,43 @@
--- Causes 10 to 17 at a mark as the code computes them: of the rules' checks, the first that fails, by the claims at the
--- successors.
+-- Causes 10 to 17 at a mark as the code computes them: of the rules' checks, the first that fails.
 -- Assumes nothing.
-use Rattle.std.specs.Prelude.{ℕ, Bool, true, cond, ◌&&◌, eqb, leb}
-use Rattle.std.proofs.Math.Option.{Option, none, some}
+use Rattle.std.specs.Prelude.{ℕ, ◌≡◌, Bool, true, cond, ◌&&◌, List, ◌++◌, eqb, leb, Option, Some, None, Err}
 use Rattle.registers.specs.Word.{wrapping_add}
 use Rattle.commands.specs.Header.{holds}
 use Rattle.commands.specs.declared.command.Claim.{Claim}
 use Rattle.commands.specs.declared.header.Window.{Window}
+use Rattle.ticket.specs.declared.fields.Mark.{Mark}
+use Rattle.ticket.specs.Fields.{Fields}
+use Rattle.ticket.specs.Read.{refusal}
+use Rattle.answers.specs.Verdict.{Verdict}
+use Rattle.rules.specs.Marks.{claim_at}
+use Rattle.rules.specs.Checks.{Check, first_failing, checks_at}
 use Rattle.rules.specs.Checks.{depth_agrees, cost_covers, need_covers, has_depth, cost_covers_call, need_covers_target}
 use Rattle.rules.specs.Checks.{need_covers_after}
+use Rattle.checks.specs.declared.shape.Successors.{Successors}
+use Rattle.checks.specs.declared.shape.Successors.TheVariants.{One, Two}
 use Rattle.checks.specs.declared.shape.Writes.{Writes}
 use Rattle.checks.specs.declared.shape.Writes.TheVariants.{Nowhere, Byte, Word}
 use Rattle.checks.specs.declared.shape.Ordinary.{Ordinary}
+use Rattle.checks.specs.declared.shape.Call.{Call}
 use Rattle.checks.specs.declared.shape.Shape.{Shape}
 use Rattle.checks.specs.declared.shape.Shape.TheVariants as Shape
 use Rattle.checks.specs.inner.Said.{ordinary_said}
-use Rattle.checks.specs.declared.mark.Marked.{Marked}
-use Rattle.checks.specs.declared.mark.Marked.TheVariants.{Unmarked, At}
-
--- what the code's `Marked` says
-abbrev pub marked_said : Marked → Option Claim
-marked_said Unmarked = none
-marked_said (At c) = some c
 
 abbrev pub in_data : Window → Writes → Bool
 in_data w Nowhere = true
 in_data w (Byte a) = holds w a
 in_data w (Word a) = holds w a && holds w (wrapping_add a 1)
 
--- x and y are the claims at both successors; where there is one, it stands twice
+abbrev pub both : Option Claim → Option Claim → Option (Claim × Claim)
+both None b = None
+both (Some x) None = None
+both (Some x) (Some y) = Some (x, y)
+
+-- the claims at both successors; where there is one, its claim stands twice
+abbrev pub claims_in : List Mark → Successors → Option (Claim × Claim)
+claims_in ms (One a) = both (claim_at ms a) (claim_at ms a)
+claims_in ms (Two a b) = both (claim_at ms a) (claim_at ms b)
+
 abbrev pub follows_of : Claim → Ordinary → Claim → Claim → ℕ
 follows_of k o x y =
     cond (depth_agrees k (ordinary_said o) x && depth_agrees k (ordinary_said o) y)
@@ -37,15 +46,16 @@ follows_of k o x y =
     16)
     15
 
--- 14 unless there are claims at both addresses
-abbrev pub both_marked : Marked → Marked → (Claim → Claim → ℕ) → ℕ
-both_marked Unmarked b f = 14
-both_marked (At x) Unmarked f = 14
-both_marked (At x) (At y) f = f x y
+-- 14 unless there are claims at both successors
+abbrev pub if_claimed : Option (Claim × Claim) → (Claim → Claim → ℕ) → ℕ
+if_claimed None f = 14
+if_claimed (Some b) f = f b.0 b.1
 
-abbrev pub ordinary_of : Window → Claim → Ordinary → Marked → Marked → ℕ
-ordinary_of w k o a b =
-    cond (in_data w o.writes) (cond (leb o.pulled.0 k.depth.0) (both_marked a b (follows_of k o)) 13) 12
+abbrev pub ordinary_of : Window → List Mark → Claim → Ordinary → ℕ
+ordinary_of w ms k o =
+    cond (in_data w o.writes)
+    (cond (leb o.pulled.0 k.depth.0) (if_claimed (claims_in ms o.next) (follows_of k o)) 13)
+    12
 
 abbrev pub called_of : Claim → ℕ → Claim → Claim → ℕ
 called_of k cycles x y =
@@ -53,19 +63,29 @@ called_of k cycles x y =
     (cond (cost_covers_call k cycles x y) (cond (need_covers_target k x && need_covers_after k y) 0 17) 16)
     15
 
-abbrev pub call_of : Claim → ℕ → Marked → Marked → ℕ
-call_of k cycles a b = both_marked a b (called_of k cycles)
+abbrev pub call_of : List Mark → Claim → Call → ℕ
+call_of ms k c = if_claimed (claims_in ms (Two c.target c.after)) (called_of k c.cycles.0)
 
 abbrev pub return_of : Claim → ℕ → ℕ
 return_of k cycles = cond (eqb k.depth.0 0) (cond (leb cycles k.cost.0) 0 16) 13
 
 -- with the instruction inside the code window
-abbrev pub inside_of : Window → Claim → Shape → Marked → Marked → ℕ
-inside_of w k (Shape.Ordinary o) a b = ordinary_of w k o a b
-inside_of w k (Shape.Call c) a b = call_of k c.cycles.0 a b
-inside_of w k (Shape.Return cycles) a b = return_of k cycles.0
-inside_of w k Shape.Forbidden a b = 11
-inside_of w k Shape.Nothing a b = 10
+abbrev pub inside_of : Window → List Mark → Claim → Shape → ℕ
+inside_of w ms k (Shape.Ordinary o) = ordinary_of w ms k o
+inside_of w ms k (Shape.Call c) = call_of ms k c
+inside_of w ms k (Shape.Return cycles) = return_of k cycles.0
+inside_of w ms k Shape.Forbidden = 11
+inside_of w ms k Shape.Nothing = 10
 
-unfoldable pub mark_cause_of : Window → Claim → Shape → Bool → Marked → Marked → ℕ
-mark_cause_of w k s inside a b = cond inside (inside_of w k s a b) 10
+unfoldable pub mark_cause_of : Window → List Mark → Claim → Shape → Bool → ℕ
+mark_cause_of w ms k s inside = cond inside (inside_of w ms k s) 10
+
+-- what follows a cause: the rest where it is 0, or a refusal with it
+abbrev pub cause_then : ℕ → ℕ → Verdict → Verdict
+cause_then n place v = cond (eqb n 0) v (Err (refusal n place))
+
+-- of the checks at a mark, n is the first that fails, or 0
+abbrev pub CauseIs : Fields → List ℕ → Mark → ℕ → Type 0
+CauseIs f image m n =
+    (cs : List Check) (v : Verdict)
+    → first_failing (checks_at f image m ++ cs) v ≡ cause_then n m.address (first_failing cs v)

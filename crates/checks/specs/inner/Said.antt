@@ -2,6 +2,7 @@
 -- Assumes nothing.
 use Rattle.std.specs.Prelude.{ℕ, List, [], ◌∷◌}
 use Rattle.registers.specs.Word.{wrapping_add}
+use Rattle.registers.specs.declared.Cycles.{Cycles}
 use Rattle.rules.specs.Shape as Rules
 use Rattle.checks.specs.declared.shape.Successors.{Successors}
 use Rattle.checks.specs.declared.shape.Successors.TheVariants.{One, Two}
@@ -21,6 +22,11 @@ abbrev pub writes_said : Writes → List ℕ
 writes_said Nowhere = []
 writes_said (Byte a) = a ∷ []
 writes_said (Word a) = a ∷ wrapping_add a 1 ∷ []
+
+-- of an instruction that only goes on
+abbrev pub onward_of : Successors → Cycles → Ordinary
+onward_of next cycles =
+    record { next = next; pushed = record { 0 = 0 }; pulled = record { 0 = 0 }; writes = Nowhere; cycles = cycles }
 
 abbrev pub ordinary_said : Ordinary → Rules.Ordinary
 ordinary_said o =
