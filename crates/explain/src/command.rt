@@ -3,118 +3,99 @@ use crate::hex::{byte, word};
 use answers::Refusal;
 use commands::command::Command;
 use commands::encode::width_of;
-use commands::parse::{ParsedCommand, parse};
+use commands::parse::parse;
 use output::text;
 
-// A mark's address, or none.
-#[derive(Clone, Copy)]
-enum MarkAddress {
-    At(u16),
-    Nowhere,
-}
-
-fn name(rt: &impl Print, b: u8) {
+fn name(b: u8) -> &'static [u8] {
     match b {
-        0x00 => text(rt, b"end"),
-        0x01 => text(rt, b"code window"),
-        0x02 => text(rt, b"data window"),
-        0x03 => text(rt, b"stack window"),
-        0x04 => text(rt, b"entry"),
-        0x05 => text(rt, b"mark"),
-        0x06 => text(rt, b"name"),
-        0x07 => text(rt, b"home"),
-        _ => text(rt, b"unknown"),
+        0x00 => b"end",
+        0x01 => b"code window",
+        0x02 => b"data window",
+        0x03 => b"stack window",
+        0x04 => b"entry",
+        0x05 => b"mark",
+        0x06 => b"name",
+        0x07 => b"home",
+        _ => b"unknown",
     }
 }
 
 fn command(rt: &impl Print, b: u8) {
     byte(rt, b"command $", b);
     text(rt, b" (");
-    name(rt, b);
+    text(rt, name(b));
     text(rt, b")");
 }
 
-// The latest mark after one more command.
-fn with(latest: MarkAddress, c: Command) -> MarkAddress {
+// The latest mark's address after one more command.
+fn with(latest: Option<u16>, c: Command) -> Option<u16> {
     match c {
-        Command::Header(_) => latest,
-        Command::Mark(a, _) => MarkAddress::At(a),
-        Command::Name(_, _) => latest,
-        Command::End => latest,
+        Command::Mark(a, _) => Some(a),
+        Command::Header(_) | Command::Name(_, _) | Command::End => latest,
     }
 }
 
-// The latest mark before an offset at which a command begins.
-fn mark_before(ticket: &[u8], place: u32) -> MarkAddress {
-    let mut latest = MarkAddress::Nowhere;
+// The address of the latest mark before an offset at which a command begins.
+fn mark_before(ticket: &[u8], place: u32) -> Option<u16> {
+    let mut latest = None;
     let mut at: usize = 0;
-    while at < (place as usize) {
-        if ticket.len() < at {
-            return latest;
-        }
-        match parse(&ticket[at..]) {
-            ParsedCommand::Unknown => return latest,
-            ParsedCommand::Cut => return latest,
-            ParsedCommand::Found(c) => {
-                latest = with(latest, c);
-                at += width_of(c) as usize;
-            }
-        }
+    while at < place as usize {
+        let Some(rest) = ticket.get(at..) else {
+            break;
+        };
+        let Ok(c) = parse(rest) else {
+            break;
+        };
+        latest = with(latest, c);
+        at += width_of(c) as usize;
     }
     latest
 }
 
-fn number(high: u8, low: u8) -> u16 {
-    (high as u16) * 256 + (low as u16)
-}
-
 // The address of a mark that may be cut short: it is the first operand.
-fn own_address(ticket: &[u8], at: usize) -> MarkAddress {
-    if ticket.len() < 3 {
-        return MarkAddress::Nowhere;
+fn own_address(ticket: &[u8], at: usize) -> Option<u16> {
+    match ticket.get(at..) {
+        Some([_, high, low, ..]) => Some(u16::from_be_bytes([*high, *low])),
+        _ => None,
     }
-    if ticket.len() - 3 < at {
-        return MarkAddress::Nowhere;
-    }
-    MarkAddress::At(number(ticket[at + 1], ticket[at + 2]))
 }
 
-fn after(rt: &impl Print, m: MarkAddress) {
-    match m {
-        MarkAddress::At(a) => word(rt, b", after the mark at $", a),
-        MarkAddress::Nowhere => text(rt, b", before the first mark"),
+fn after(rt: &impl Print, mark: Option<u16>) {
+    match mark {
+        Some(a) => word(rt, b", after the mark at $", a),
+        None => text(rt, b", before the first mark"),
     }
 }
 
 fn mark(rt: &impl Print, ticket: &[u8], place: u32) {
     match own_address(ticket, place as usize) {
-        MarkAddress::At(a) => word(rt, b", of the mark at $", a),
-        MarkAddress::Nowhere => after(rt, mark_before(ticket, place)),
+        Some(a) => word(rt, b", of the mark at $", a),
+        None => after(rt, mark_before(ticket, place)),
     }
 }
 
 fn command_line(rt: &impl Print, ticket: &[u8], place: u32) {
-    let at = place as usize;
-    if at < ticket.len() {
-        let b = ticket[at];
-        command(rt, b);
-        if b == 0x05 {
-            mark(rt, ticket, place);
-        } else {
+    match ticket.get(place as usize) {
+        Some(b) => {
+            command(rt, *b);
+            if *b == 0x05 {
+                mark(rt, ticket, place);
+            } else {
+                after(rt, mark_before(ticket, place));
+            }
+        }
+        None => {
+            text(rt, b"end of the ticket");
             after(rt, mark_before(ticket, place));
         }
-    } else {
-        text(rt, b"end of the ticket");
-        after(rt, mark_before(ticket, place));
     }
     text(rt, b"\n");
 }
 
 // A byte after the end is no command, whatever it is.
 fn byte_line(rt: &impl Print, ticket: &[u8], place: u32) {
-    let at = place as usize;
-    if at < ticket.len() {
-        byte(rt, b"byte $", ticket[at]);
+    if let Some(b) = ticket.get(place as usize) {
+        byte(rt, b"byte $", *b);
         text(rt, b", after the end\n");
     }
 }

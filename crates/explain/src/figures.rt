@@ -1,7 +1,7 @@
 // Figures of the ticket that a refusal is about.
 use crate::hex::word;
 use commands::header::{Header, Window};
-use output::{decimal, text};
+use output::text;
 use registers::word::{wrapping_add, wrapping_sub};
 
 // A window's first and last address.
@@ -12,47 +12,34 @@ pub fn window_line(rt: &impl Print, name: &[u8], w: Window) {
         return;
     }
     word(rt, b" $", w.start);
-    word(
-        rt,
-        b" to $",
-        wrapping_sub(wrapping_add(w.start, w.length), 1),
-    );
+    let last = wrapping_sub(wrapping_add(w.start, w.length), 1);
+    word(rt, b" to $", last);
     text(rt, b"\n");
 }
 
-// A number of things, with their name in the singular.
-fn number_of(rt: &impl Print, n: u64, thing: &[u8]) {
-    decimal(rt, n);
-    text(rt, b" ");
-    text(rt, thing);
-    if n != 1 {
-        text(rt, b"s");
-    }
+// What is added to a thing's name where it is said of so many.
+fn plural(n: u64) -> &'static str {
+    if n == 1 { "" } else { "s" }
 }
 
 pub fn lengths_line(rt: &impl Print, code: Window, image: &[u8]) {
-    text(rt, b"image ");
-    number_of(rt, image.len() as u64, b"byte");
-    text(rt, b", code window ");
-    number_of(rt, code.length as u64, b"byte");
-    text(rt, b"\n");
+    let given = image.len() as u64;
+    let asked = code.length as u64;
+    let _ = print!(rt;
+        "image {given} byte{}, code window {asked} byte{}\n", plural(given), plural(asked)
+    );
 }
 
 fn limit_line(rt: &impl Print, cycles: u32) {
-    text(rt, b"limit ");
-    number_of(rt, cycles as u64, b"cycle");
-    text(rt, b"\n");
+    let _ = print!(rt; "limit {cycles} cycle{}\n", plural(cycles as u64));
 }
 
 // What a mark's claims are held against: of 12 it is the data window, of 19 the limit, of 20 the stack window.
 pub fn figures_line(rt: &impl Print, number: u8, h: Header) {
-    let data = h.data;
-    let stack = h.stack;
-    let limit = h.limit;
     match number {
-        12 => window_line(rt, b"data window", data),
-        19 => limit_line(rt, limit.0),
-        20 => window_line(rt, b"stack window", stack),
+        12 => window_line(rt, b"data window", h.data),
+        19 => limit_line(rt, h.limit.0),
+        20 => window_line(rt, b"stack window", h.stack),
         _ => {}
     }
 }

@@ -1,94 +1,41 @@
 // What stands at the place in an S-record file: a line, the file's end, or no line at all.
-ghost use Rattle.std.specs.Prelude.{◌≤◌, length};
-
 use crate::figures::window_line;
 use crate::given::missing_line;
 use answers::Refusal;
 use commands::header::Window;
 use output::{decimal, text};
 
-// Where the line after so many others begins; the file's length where there is none.
-fn start_of(file: &[u8], before: u32) -> usize
-    ensures { result ≤ length file.now }
-{
-    let mut left = before;
-    let mut i = 0;
-    while i < file.len() {
-        if left == 0 {
-            return i;
-        }
-        if file[i] == b'\n' {
-            left -= 1;
-        }
-        i += 1;
-    }
-    i
-}
-
-// Whether a line feed ends the first line.
-fn ended(s: &[u8]) -> bool {
-    let mut i = 0;
-    while i < s.len() {
-        if s[i] == b'\n' {
-            return true;
-        }
-        i += 1;
-    }
-    false
-}
-
-// A line's end, which begins with the carriage return where one stands before the line feed; or the file's.
-fn ends_at(s: &[u8], i: usize) -> bool {
-    if s.len() <= i {
-        return true;
-    }
-    if s[i] == b'\n' {
-        return true;
-    }
-    if s.len() - i < 2 {
-        return false;
-    }
-    (s[i] == b'\r') & (s[i + 1] == b'\n')
-}
-
 // A printable character as it is, any other byte as a dot.
-fn shown(s: &[u8], i: usize) -> u8 {
-    if s.len() <= i {
-        return b'.';
-    }
-    if (0x20 <= s[i]) & (s[i] <= 0x7e) {
-        s[i]
-    } else {
-        b'.'
+fn shown(b: u8) -> u8 {
+    match b {
+        0x20..=0x7e => b,
+        _ => b'.',
     }
 }
 
-// The characters of the first line, as many as there is room for.
-fn put(s: &[u8], line: &mut [u8]) -> usize
-    ensures { result ≤ length line.new }
-{
-    let mut i = 0;
-    while i < line.len() {
-        if ends_at(s, i) {
-            return i;
-        }
-        line[i] = shown(s, i);
-        i += 1;
+// A line without its end: a line feed, with the carriage return where one stands before it.
+fn without_end(line: &[u8]) -> &[u8] {
+    match line {
+        [rest @ .., b'\r', b'\n'] => rest,
+        [rest @ .., b'\n'] => rest,
+        _ => line,
     }
-    i
 }
 
 // Up to 80 characters: a record of 32 bytes has 74.
-fn first_line(rt: &impl Print, rest: &[u8]) {
-    let mut line = [0u8; 80];
-    let n = put(rest, &mut line);
+fn whole_line(rt: &impl Print, line: &[u8]) {
+    let characters = without_end(line);
+    let mut printed = [0u8; 80];
+    for (to, from) in printed.iter_mut().zip(characters) {
+        *to = shown(*from);
+    }
     text(rt, b"line \"");
-    text(rt, &line[0..n]);
+    text(rt, &printed[..characters.len().min(80)]);
     text(rt, b"\"");
-    if !ends_at(rest, n) {
+    if 80 < characters.len() {
         text(rt, b"..");
     }
-    if !ended(rest) {
+    if !line.ends_with(b"\n") {
         text(rt, b", without a line feed");
     }
     text(rt, b"\n");
@@ -107,19 +54,19 @@ fn end_line(rt: &impl Print, lines: u32) {
 }
 
 fn line_at(rt: &impl Print, file: &[u8], before: u32) {
-    let start = start_of(file, before);
-    if start < file.len() {
-        first_line(rt, &file[start..]);
-    } else {
-        end_line(rt, before);
+    let line = file
+        .split_inclusive(|b| *b == b'\n')
+        .nth(before as usize);
+    match line {
+        Some(line) => whole_line(rt, line),
+        None => end_line(rt, before),
     }
 }
 
 pub fn file_lines(rt: &impl Print, x: Refusal, file: &[u8], code: Window) {
-    if x.place == 0 {
-        missing_line(rt, file, code);
-    } else {
-        line_at(rt, file, x.place - 1);
+    match x.place.checked_sub(1) {
+        Some(before) => line_at(rt, file, before),
+        None => missing_line(rt, file, code),
     }
     if x.number == 27 {
         window_line(rt, b"code window", code);

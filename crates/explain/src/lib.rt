@@ -9,10 +9,10 @@ use crate::file::file_lines;
 use crate::hex::word;
 use crate::place::place_line;
 use crate::words::{to_do, words};
-use answers::{Refusal, Verdict};
+use answers::Refusal;
+use commands::header::Window;
 use output::{decimal, text};
 use text::verdict::put_verdict;
-use ticket::answer::ReadAnswer;
 use ticket::fields::Ticket;
 use ticket::read;
 
@@ -26,18 +26,18 @@ mod hex; // numbers in hexadecimal
 
 fn verdict_line(rt: &impl Print, x: Refusal) {
     let mut line = [0u8; 64];
-    let n = put_verdict(Verdict::Refuse(x), &mut line);
-    text(rt, &line[0..n]);
+    let n = put_verdict(Err(x), &mut line);
+    text(rt, &line[..n]);
 }
 
 // Whether a cause is found in the ticket's bytes: 1 to 8, and 29 of home.
 fn of_ticket(number: u8) -> bool {
-    (number < 9) | (number == 29)
+    matches!(number, 0..=8 | 29)
 }
 
 // Whether it is found in an S-record file.
 pub fn of_file(number: u8) -> bool {
-    (25 <= number) & (number <= 27)
+    matches!(number, 25..=27)
 }
 
 // The place in a ticket is an offset, from 10 to 20 an address; 9 has none.
@@ -48,9 +48,7 @@ fn place_label(rt: &impl Print, x: Refusal) {
     let place = (x.place % 65536) as u16;
     if of_ticket(x.number) {
         word(rt, b" at offset $", place);
-        return;
-    }
-    if 9 < x.number {
+    } else if 9 < x.number {
         word(rt, b" at $", place);
     }
 }
@@ -71,37 +69,30 @@ fn cause_line(rt: &impl Print, x: Refusal) {
         place_label(rt, x);
     }
     text(rt, b": ");
-    words(rt, x.number);
+    text(rt, words(x.number));
     text(rt, b"\n");
 }
 
-fn judged_lines(rt: &impl Print, x: Refusal, t: Ticket, image: &[u8]) {
-    let h = t.header;
-    let code = h.code;
+fn judged_lines(rt: &impl Print, x: Refusal, t: &Ticket, image: &[u8]) {
     if x.number == 9 {
-        lengths_line(rt, code, image);
+        lengths_line(rt, t.header.code, image);
         return;
     }
     place_line(rt, t, (x.place % 65536) as u16, image);
-    figures_line(rt, x.number, h);
+    figures_line(rt, x.number, t.header);
 }
 
 // What stands at the place: in a ticket that is refused at reading a command or a byte, else an instruction or figures.
 fn place_lines(rt: &impl Print, x: Refusal, ticket: &[u8], image: &[u8]) {
-    let reading = read(ticket);
-    let answer = reading.answer;
-    match answer {
-        ReadAnswer::Refused(_) => ticket_line(rt, x, ticket),
-        ReadAnswer::Read => {
-            let t = reading.ticket;
-            judged_lines(rt, x, t, image);
-        }
+    match read(ticket) {
+        Ok(t) => judged_lines(rt, x, &t, image),
+        Err(_) => ticket_line(rt, x, ticket),
     }
 }
 
 fn to_do_line(rt: &impl Print, x: Refusal) {
     text(rt, b"to do: ");
-    to_do(rt, x.number);
+    text(rt, to_do(x.number));
     text(rt, b"\n");
 }
 
@@ -112,12 +103,12 @@ pub fn refused(rt: &impl Print, x: Refusal, ticket: &[u8], image: &[u8]) {
     to_do_line(rt, x);
 }
 
-// Where an S-record file is refused, so that there is no image: 25 to 27.
+// Where an S-record file is refused, so that there is no image: 25 to 27. Its ticket is read; another has no code window.
 pub fn refused_file(rt: &impl Print, x: Refusal, ticket: &[u8], file: &[u8]) {
-    let reading = read(ticket);
-    let t = reading.ticket;
-    let h = t.header;
-    let code = h.code;
+    let code = match read(ticket) {
+        Ok(t) => t.header.code,
+        Err(_) => Window::EMPTY,
+    };
     verdict_line(rt, x);
     cause_line(rt, x);
     file_lines(rt, x, file, code);

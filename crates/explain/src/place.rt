@@ -2,39 +2,33 @@
 ghost use Rattle.std.specs.Prelude.{◌<◌};
 
 use crate::figures::window_line;
+use commands::command::Claim;
 use commands::header::holds;
-use marks::{claim_at, index_of};
-use opcodes::lookup::{Found, found_of};
-use opcodes::table::costs;
+use marks::claim_at;
+use opcodes::lookup::found_of;
 use output::text;
 use registers::word::wrapping_sub;
 use text::listing::{Listing, list};
-use text::number::put_text;
-use text::place::{Marking, put_place};
+use text::place::put_place;
 use ticket::fields::Ticket;
 
 // The byte at an index of the image; past its end there are zeros, as the checks have it.
 fn byte(image: &[u8], i: usize) -> u8 {
-    if i < image.len() { image[i] } else { 0 }
+    image.get(i).copied().unwrap_or(0)
 }
 
 // How many of the image's bytes stand from an index on.
 fn left_from(image: &[u8], i: usize) -> usize {
-    if i < image.len() { image.len() - i } else { 0 }
+    image.len().saturating_sub(i)
 }
 
 // How many bytes the tables give to the instruction at an index; 0 where there is none.
 fn size_at(image: &[u8], i: usize) -> usize
     requires { i < 65536 }
 {
-    let tc = costs();
-    match found_of(byte(image, i), byte(image, i + 1), &tc) {
-        Found::Nothing => 0,
-        Found::At {
-            place: _,
-            size: _,
-            cost,
-        } => (cost / 256) as usize,
+    match found_of(byte(image, i), byte(image, i + 1)) {
+        Some(found) => (found.cost / 256) as usize,
+        None => 0,
     }
 }
 
@@ -45,26 +39,17 @@ fn leaves(image: &[u8], i: usize) -> bool
     left_from(image, i) < size_at(image, i)
 }
 
-// The first bytes' digits, a space after each, and spaces for the others.
-fn first(left: usize, all: [u8; 14]) -> [u8; 14]
-    requires { left < 5 }
-{
-    let mut bytes = [b' '; 14];
-    put_text(&mut bytes, 0, &all[0..3 * left]);
-    bytes
-}
-
-// Of an operand that is not all there nothing is shown.
+// The first bytes' digits, a space after each, and spaces for the others. Of an operand that is not all there nothing is
+// shown.
 fn cut(l: Listing, left: usize) -> Listing
     requires { left < 5 }
 {
-    let all = l.bytes;
-    let bytes = first(left, all);
-    let mnemonic = l.mnemonic;
+    let mut bytes = l.bytes;
+    bytes[3 * left..].fill(b' ');
     Listing {
         bytes,
-        mnemonic,
         operand: [b' '; 17],
+        ..l
     }
 }
 
@@ -88,30 +73,20 @@ fn listing_at(image: &[u8], i: usize, a: u16) -> Listing
     }
 }
 
-fn instruction(rt: &impl Print, image: &[u8], i: usize, a: u16, m: Marking)
+fn instruction(rt: &impl Print, image: &[u8], i: usize, a: u16, claim: Option<Claim>)
     requires { i < 65536 }
 {
     let mut line = [0u8; 256];
-    let n = put_place(a, listing_at(image, i, a), m, &mut line);
-    text(rt, &line[0..n]);
-}
-
-fn marking_at(t: Ticket, a: u16) -> Marking {
-    let i = index_of(t, a);
-    if i < 4096 {
-        Marking::Marked(claim_at(t, i))
-    } else {
-        Marking::Unmarked
-    }
+    let n = put_place(a, listing_at(image, i, a), claim, &mut line);
+    text(rt, &line[..n]);
 }
 
 // An entry may lie outside the code window; a mark does not.
-pub fn place_line(rt: &impl Print, t: Ticket, a: u16, image: &[u8]) {
-    let h = t.header;
-    let code = h.code;
+pub fn place_line(rt: &impl Print, t: &Ticket, a: u16, image: &[u8]) {
+    let code = t.header.code;
     if holds(code, a) {
         let i = wrapping_sub(a, code.start) as usize;
-        instruction(rt, image, i, a, marking_at(t, a));
+        instruction(rt, image, i, a, claim_at(t, a));
         if leaves(image, i) {
             window_line(rt, b"leaves the code window", code);
         }
