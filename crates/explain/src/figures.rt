@@ -26,7 +26,9 @@ pub fn lengths_line(rt: &impl Print, code: Window, image: &[u8]) {
     let given = image.len() as u64;
     let asked = code.length as u64;
     let _ = print!(rt;
-        "image {given} byte{}, code window {asked} byte{}\n", plural(given), plural(asked)
+        "image {given} byte{}, code window {asked} byte{}\n",
+        plural(given),
+        plural(asked)
     );
 }
 

@@ -54,9 +54,7 @@ fn end_line(rt: &impl Print, lines: u32) {
 }
 
 fn line_at(rt: &impl Print, file: &[u8], before: u32) {
-    let line = file
-        .split_inclusive(|b| *b == b'\n')
-        .nth(before as usize);
+    let line = file.split_inclusive(|b| *b == b'\n').nth(before as usize);
     match line {
         Some(line) => whole_line(rt, line),
         None => end_line(rt, before),
