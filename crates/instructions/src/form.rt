@@ -39,6 +39,7 @@ pub enum Form {
 }
 
 // Where the operand stands, or where a jump goes. An inherent or immediate operand names no address.
+#[tactic(auto, unfolding(crate::specs::Form::address_in))]
 fn address_in(o: Operand, next: u16) -> Address
     ensures { result ≡ address_in o next }
 {
@@ -54,6 +55,7 @@ fn address_in(o: Operand, next: u16) -> Address
 }
 
 // Where a branch goes. An operand without an offset branches nowhere.
+#[tactic(auto, unfolding(crate::specs::Form::target_in))]
 fn target_in(o: Operand, next: u16) -> u16
     ensures { result ≡ target_in o next }
 {
@@ -90,6 +92,7 @@ fn load_form(w: Word) -> Form
 }
 
 // Of an action with an operand; `next` is the address after the instruction.
+#[tactic(auto, unfolding(crate::specs::Entry::form_of))]
 pub fn form_of(a: Action, o: Operand, next: u16) -> Form
     ensures { result ≡ form_of a o next }
 {

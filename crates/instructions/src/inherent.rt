@@ -44,6 +44,7 @@ pub fn with_i(f: u8, set: bool) -> u8
 }
 
 // TAP, RTI: new flags where the old ones are f. X is never raised.
+#[tactic(auto, unfolding(crate::specs::Inherent::replaced))]
 pub fn replaced(new: u8, f: u8) -> u8
     ensures { result ≡ replaced new f }
 {
@@ -55,12 +56,14 @@ pub fn replaced(new: u8, f: u8) -> u8
     .to_byte()
 }
 
+#[tactic(auto, unfolding(crate::specs::Inherent::inherent_of))]
 fn compared(r: Registers) -> Registers
     ensures { result ≡ with_data r (inherent_of Inherent.Cba r.sp (data_of r)) }
 {
     r.with_flags(sub8(r.a, r.b, false, r.flags).flags)
 }
 
+#[tactic(auto, unfolding(crate::specs::Inherent::inherent_of))]
 pub fn inherent(i: Inherent, r: Registers) -> Registers
     ensures { result ≡ with_data r (inherent_of i r.sp (data_of r)) }
 {

@@ -20,6 +20,7 @@ fn stack_words(r: Registers, mem: &mut Memory)
     push_word(mem, wrapping_sub(r.sp, 4), r.x);
 }
 
+#[tactic(auto, unfolding(memory::specs::inner::Stored::with_pushed, crate::specs::Interrupt::stacked_of))]
 fn stack_all(r: Registers, mem: &mut Memory)
     ensures { mem.new ≡ applied (stacked_of r) mem.old }
 {
@@ -30,6 +31,7 @@ fn stack_all(r: Registers, mem: &mut Memory)
 }
 
 // SWI.
+#[tactic(auto, unfolding(crate::specs::Interrupt::interrupted_of))]
 pub fn interrupt(r: Registers, mem: &mut Memory) -> Registers
     ensures { (result ≡ interrupted_of r mem.old)
         × (mem.new ≡ applied (stacked_of r) mem.old) }
@@ -44,6 +46,7 @@ pub fn interrupt(r: Registers, mem: &mut Memory) -> Registers
 }
 
 // RTI.
+#[tactic(auto, unfolding(crate::specs::Interrupt::resumed_of))]
 pub fn resume(r: Registers, mem: &Memory) -> Registers
     ensures { result ≡ resumed_of r mem.now }
 {

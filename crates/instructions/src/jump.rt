@@ -38,6 +38,7 @@ pub fn branch(test: u8, t: u16, r: Registers) -> Registers
 }
 
 // BRSET of the byte v.
+#[tactic(auto, unfolding(crate::proofs::Effects::opened))]
 pub fn branch_set(v: u8, mask: u8, t: u16, r: Registers) -> Registers
     ensures { GoesOnBits Action.Brset v mask t r result }
 {
@@ -45,6 +46,7 @@ pub fn branch_set(v: u8, mask: u8, t: u16, r: Registers) -> Registers
 }
 
 // BRCLR of the byte v.
+#[tactic(auto, unfolding(crate::proofs::Effects::opened))]
 pub fn branch_clear(v: u8, mask: u8, t: u16, r: Registers) -> Registers
     ensures { GoesOnBits Action.Brclr v mask t r result }
 {
@@ -52,6 +54,7 @@ pub fn branch_clear(v: u8, mask: u8, t: u16, r: Registers) -> Registers
 }
 
 // JMP.
+#[tactic(auto, unfolding(crate::proofs::Effects::opened))]
 pub fn jump(at: u16, r: Registers) -> Registers
     ensures { JumpsTo Action.Jmp at r result }
 {
@@ -59,6 +62,7 @@ pub fn jump(at: u16, r: Registers) -> Registers
 }
 
 // JSR and BSR: PC stands past the instruction.
+#[tactic(auto, unfolding(crate::proofs::Effects::opened))]
 pub fn call(at: u16, r: Registers, mem: &mut Memory) -> Registers
     ensures { StoresAt Action.Call at r mem.old result mem.new }
 {

@@ -7,6 +7,7 @@ ghost use Rattle.instructions.specs.Named.{word_register_of, to_word};
 use opcodes::instruction::{Accumulator, Index, Word};
 use registers::Registers;
 
+#[tactic(auto, unfolding(crate::specs::Named::accumulator_of))]
 pub fn accumulator(c: Accumulator, r: Registers) -> u8
     ensures { result ≡ accumulator_of c (data_of r) }
 {
@@ -16,6 +17,7 @@ pub fn accumulator(c: Accumulator, r: Registers) -> u8
     }
 }
 
+#[tactic(auto, unfolding(crate::specs::Named::with_accumulator))]
 pub fn with_accumulator(c: Accumulator, r: Registers, v: u8, f: u8) -> Registers
     ensures { result ≡ with_data r (with_accumulator c (data_of r) v f) }
 {
@@ -25,6 +27,7 @@ pub fn with_accumulator(c: Accumulator, r: Registers, v: u8, f: u8) -> Registers
     }
 }
 
+#[tactic(auto, unfolding(crate::specs::Named::index_register_of))]
 pub fn index_register(i: Index, r: Registers) -> u16
     ensures { result ≡ index_register_of i (data_of r) }
 {
@@ -34,6 +37,7 @@ pub fn index_register(i: Index, r: Registers) -> u16
     }
 }
 
+#[tactic(auto, unfolding(crate::specs::Named::with_index))]
 pub fn with_index(i: Index, r: Registers, v: u16) -> Registers
     ensures { result ≡ with_data r (with_index i (data_of r) v) }
 {
@@ -43,6 +47,7 @@ pub fn with_index(i: Index, r: Registers, v: u16) -> Registers
     }
 }
 
+#[tactic(auto, unfolding(crate::specs::Named::word_register_of))]
 pub fn word_register(w: Word, r: Registers) -> u16
     ensures { result ≡ word_register_of w r.sp (data_of r) }
 {
@@ -55,6 +60,7 @@ pub fn word_register(w: Word, r: Registers) -> u16
 }
 
 // LDS sets the flags alone here: SP is not among the data.
+#[tactic(auto, unfolding(crate::specs::Named::to_word))]
 pub fn to_word(w: Word, r: Registers, v: u16, f: u8) -> Registers
     ensures { result ≡ with_data r (to_word w (data_of r) v f) }
 {

@@ -18,6 +18,7 @@ fn indexed(index: u16, from: u16, mem: &Memory) -> u16
 
 // The address of an operand of mode k, whose bytes start at `from`; PC stands past the instruction. An immediate
 // operand stands there itself.
+#[tactic(auto, unfolding(crate::specs::inner::Sited::address_at))]
 pub fn address(k: u8, from: u16, r: Registers, mem: &Memory) -> u16
     ensures { result ≡ address_at (mode_of k) from r mem.now }
 {

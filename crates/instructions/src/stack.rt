@@ -9,6 +9,7 @@ use registers::Registers;
 use registers::word::{wrapping_add, wrapping_sub};
 
 // PSHA, PSHB.
+#[tactic(auto, unfolding(crate::proofs::Effects::opened))]
 pub fn push_byte(c: Accumulator, r: Registers, mem: &mut Memory) -> Registers
     ensures { Does (Action.PushByte c) r mem.old result mem.new }
 {
@@ -17,6 +18,7 @@ pub fn push_byte(c: Accumulator, r: Registers, mem: &mut Memory) -> Registers
 }
 
 // PSHX, PSHY.
+#[tactic(auto, unfolding(crate::proofs::Effects::opened))]
 pub fn push_word(i: Index, r: Registers, mem: &mut Memory) -> Registers
     ensures { Does (Action.PushWord i) r mem.old result mem.new }
 {
@@ -25,6 +27,7 @@ pub fn push_word(i: Index, r: Registers, mem: &mut Memory) -> Registers
 }
 
 // PULA, PULB.
+#[tactic(auto, unfolding(crate::proofs::Effects::opened))]
 pub fn pull_byte(c: Accumulator, r: Registers, mem: &Memory) -> Registers
     ensures { Does (Action.PullByte c) r mem.now result mem.now }
 {
@@ -34,6 +37,7 @@ pub fn pull_byte(c: Accumulator, r: Registers, mem: &Memory) -> Registers
 }
 
 // PULX, PULY.
+#[tactic(auto, unfolding(crate::proofs::Effects::opened))]
 pub fn pull_word(i: Index, r: Registers, mem: &Memory) -> Registers
     ensures { Does (Action.PullWord i) r mem.now result mem.now }
 {
@@ -42,6 +46,7 @@ pub fn pull_word(i: Index, r: Registers, mem: &Memory) -> Registers
 }
 
 // DES.
+#[tactic(auto, unfolding(crate::proofs::Effects::opened))]
 pub fn reserve(r: Registers) -> Registers
     ensures { Leaves Action.Des r result }
 {
@@ -49,6 +54,7 @@ pub fn reserve(r: Registers) -> Registers
 }
 
 // INS.
+#[tactic(auto, unfolding(crate::proofs::Effects::opened))]
 pub fn release(r: Registers) -> Registers
     ensures { Leaves Action.Ins r result }
 {
@@ -56,6 +62,7 @@ pub fn release(r: Registers) -> Registers
 }
 
 // TXS, TYS.
+#[tactic(auto, unfolding(crate::proofs::Effects::opened))]
 pub fn set_stack(i: Index, r: Registers) -> Registers
     ensures { Leaves (Action.SetStack i) r result }
 {
@@ -63,6 +70,7 @@ pub fn set_stack(i: Index, r: Registers) -> Registers
 }
 
 // RTS.
+#[tactic(auto, unfolding(crate::proofs::Effects::opened))]
 pub fn return_from(r: Registers, mem: &Memory) -> Registers
     ensures { Does Action.Rts r mem.now result mem.now }
 {

@@ -14,6 +14,7 @@ use opcodes::instruction::{Accumulator, Unary, Word};
 use registers::Registers;
 
 // STAA, STAB.
+#[tactic(auto, unfolding(crate::proofs::Effects::opened))]
 pub fn store_byte(c: Accumulator, at: u16, r: Registers, mem: &mut Memory) -> Registers
     ensures { StoresAt (Action.StoreByte c) at r mem.old result mem.new }
 {
@@ -23,6 +24,7 @@ pub fn store_byte(c: Accumulator, at: u16, r: Registers, mem: &mut Memory) -> Re
 }
 
 // STD, STX, STY, STS.
+#[tactic(auto, unfolding(crate::proofs::Effects::opened))]
 pub fn store_word(w: Word, at: u16, r: Registers, mem: &mut Memory) -> Registers
     ensures { StoresAt (Action.StoreWord w) at r mem.old result mem.new }
 {
@@ -41,6 +43,7 @@ fn put_result(b: Coded<u8>, at: u16, r: Registers, mem: &mut Memory) -> Register
 }
 
 // NEG, COM, LSR, ROR, ASR, ASL, ROL, DEC, INC, CLR.
+#[tactic(auto, unfolding(crate::proofs::Effects::opened))]
 pub fn modify(u: Unary, at: u16, r: Registers, mem: &mut Memory) -> Registers
     ensures { ModifiesAt (Action.Modify u) at r mem.old result mem.new }
 {
@@ -49,6 +52,7 @@ pub fn modify(u: Unary, at: u16, r: Registers, mem: &mut Memory) -> Registers
 }
 
 // BSET.
+#[tactic(auto, unfolding(crate::proofs::Effects::opened))]
 pub fn set_bits(mask: u8, at: u16, r: Registers, mem: &mut Memory) -> Registers
     ensures { MasksAt Action.Bset mask at r mem.old result mem.new }
 {
@@ -57,6 +61,7 @@ pub fn set_bits(mask: u8, at: u16, r: Registers, mem: &mut Memory) -> Registers
 }
 
 // BCLR.
+#[tactic(auto, unfolding(crate::proofs::Effects::opened))]
 pub fn clear_bits(mask: u8, at: u16, r: Registers, mem: &mut Memory) -> Registers
     ensures { MasksAt Action.Bclr mask at r mem.old result mem.new }
 {

@@ -9,6 +9,7 @@ use opcodes::instruction::{Accumulator, Binary, Unary, Word};
 use registers::Registers;
 
 // NEGA, NEGB ..: a byte of an accumulator.
+#[tactic(auto, unfolding(crate::proofs::Effects::opened))]
 pub fn unary_on(u: Unary, c: Accumulator, r: Registers) -> Registers
     ensures { Leaves (Action.Unary u c) r result }
 {
@@ -17,6 +18,7 @@ pub fn unary_on(u: Unary, c: Accumulator, r: Registers) -> Registers
 }
 
 // TSTA, TSTB.
+#[tactic(auto, unfolding(crate::proofs::Effects::opened))]
 pub fn test_accumulator(c: Accumulator, r: Registers) -> Registers
     ensures { Leaves (Action.TstAccumulator c) r result }
 {
@@ -24,6 +26,7 @@ pub fn test_accumulator(c: Accumulator, r: Registers) -> Registers
 }
 
 // SUBA, SUBB ..: a byte of an accumulator and the operand byte v.
+#[tactic(auto, unfolding(crate::proofs::Effects::opened))]
 pub fn binary_on(b: Binary, c: Accumulator, v: u8, r: Registers) -> Registers
     ensures { TakesByte (Action.Binary b c) v r result }
 {
@@ -32,6 +35,7 @@ pub fn binary_on(b: Binary, c: Accumulator, v: u8, r: Registers) -> Registers
 }
 
 // TST of memory.
+#[tactic(auto, unfolding(crate::proofs::Effects::opened))]
 pub fn test_byte(v: u8, r: Registers) -> Registers
     ensures { TakesByte Action.TstMemory v r result }
 {
@@ -39,6 +43,7 @@ pub fn test_byte(v: u8, r: Registers) -> Registers
 }
 
 // LDD, LDX, LDY, LDS.
+#[tactic(auto, unfolding(crate::proofs::Effects::opened))]
 pub fn load_word(w: Word, v: u16, r: Registers) -> Registers
     ensures { TakesWord (Action.LoadWord w) v r result }
 {
@@ -50,6 +55,7 @@ pub fn load_word(w: Word, v: u16, r: Registers) -> Registers
 }
 
 // ADDD.
+#[tactic(auto, unfolding(crate::proofs::Effects::opened))]
 pub fn add_word(v: u16, r: Registers) -> Registers
     ensures { TakesWord Action.Addd v r result }
 {
@@ -58,6 +64,7 @@ pub fn add_word(v: u16, r: Registers) -> Registers
 }
 
 // SUBD.
+#[tactic(auto, unfolding(crate::proofs::Effects::opened))]
 pub fn subtract_word(v: u16, r: Registers) -> Registers
     ensures { TakesWord Action.Subd v r result }
 {
@@ -66,6 +73,7 @@ pub fn subtract_word(v: u16, r: Registers) -> Registers
 }
 
 // CPD, CPX, CPY.
+#[tactic(auto, unfolding(crate::proofs::Effects::opened))]
 pub fn compare_word(w: Word, v: u16, r: Registers) -> Registers
     ensures { TakesWord (Action.CompareWord w) v r result }
 {
