@@ -1,41 +1,25 @@
--- Whether a text begins with another, byte by byte.
+-- Whether a text begins with another, as the library's functions on slices say it.
 -- Assumes nothing.
-use mathlib.Core.Path.{◌≡◌, refl}
-use mathlib.Core.Bool.{true, false, ◌&&◌}
-use mathlib.Core.List.{List, [], ◌∷◌}
-use Prim.Native.Nat.{ℕ, zero, suc, ◌+◌, ◌-◌, ◌≤◌, ◌<◌}
-use native.Mathlib.Numerals.{add-one}
-use native.Mathlib.Omega.{arith}
-use lib.Dec.{eqb}
-use lib.ListN.{length, take, drop, get_or, length-drop}
-use lib.Seq.{drop-cons, take_all}
+use Rattle.std.proofs.Common.{◌≡◌, ℕ, Bool, true, false, ◌&&◌, List, [], ◌∷◌, length, take, eqb, nat_eq, refl}
+use Rattle.std.proofs.Math.Dec.{eqb-suc-suc, eqb-suc-zero}
+use Rattle.std.specs.Cmp.Lexicographic.{pointwise}
 use Rattle.arguments.specs.Argument.{starts_with}
 
-pub too_short : (p s : List ℕ) → length s < length p → starts_with p s ≡ false
+pub begins : (p s : List ℕ) → starts_with p s ≡ pointwise nat_eq (take (length p) s) p
 unfolding starts_with
-too_short [] s h = absurd (omega arith)
-too_short (c ∷ cs) [] h = refl
-too_short (c ∷ cs) (d ∷ ds) h = rw (too_short cs ds (omega arith)) (none (eqb d c))
+begins [] s = refl
+begins (c ∷ cs) [] = refl
+begins (c ∷ cs) (d ∷ ds) = rw (begins cs ds)
+
+-- a text that is another whole
+pub equals : (p s : List ℕ) → pointwise nat_eq s p ≡ (starts_with p s && eqb (length s) (length p))
+unfolding starts_with
+equals [] [] = refl
+equals [] (d ∷ ds) = rw (eqb-suc-zero (length ds))
+equals (c ∷ cs) [] = refl
+equals (c ∷ cs) (d ∷ ds) = rw (eqb-suc-suc (length ds) (length cs), equals cs ds) (apart (eqb d c))
   where
-    none : (b : _) → (b && false) ≡ false
-    none true = refl
-    none false = refl
-
--- the next byte
-pub next_byte : (p s : List ℕ) (i : ℕ) → i < length p → i < length s →
-    starts_with (drop i p) (drop i s)
-    ≡ (eqb (get_or s i 0) (get_or p i 0) && starts_with (drop (i + 1) p) (drop (i + 1) s))
-unfolding starts_with
-next_byte p s i h k = rw (drop-cons p i 0 h, drop-cons s i 0 k, add-one)
-
--- none left
-pub no_byte : (p s : List ℕ) (i : ℕ) → length p ≤ i → starts_with (drop i p) s ≡ true
-unfolding starts_with
-no_byte [] s zero h = refl
-no_byte [] s (suc i) h = refl
-no_byte (c ∷ cs) s zero h = absurd (omega arith)
-no_byte (c ∷ cs) s (suc i) h = no_byte cs s i (omega arith)
-
--- what is left after the first n bytes
-pub rest : (n : ℕ) (s : List ℕ) → take (length s - n) (drop n s) ≡ drop n s
-rest n s = take_all (length s - n) (drop n s) (rw length-drop (omega arith))
+    apart : (b : Bool) → (b && (starts_with cs ds && eqb (length ds) (length cs)))
+        ≡ ((b && starts_with cs ds) && eqb (length ds) (length cs))
+    apart true = refl
+    apart false = refl

@@ -1,9 +1,8 @@
 -- What an argument of the desk stepper says, or why it says nothing.
 -- Assumes nothing.
 use Rattle.std.specs.Prelude.{ℕ, Bool, true, false, cond, ◌&&◌, List, [], ◌∷◌, eqb, ltb, length, drop}
+use Rattle.std.specs.Prelude.{Option, Some, None}
 use Rattle.lists.specs.Ascii.{ascii}
-use Rattle.arguments.specs.declared.number.Parsed.{Parsed}
-use Rattle.arguments.specs.declared.number.Parsed.TheVariants.{Number, Malformed}
 use Rattle.arguments.specs.declared.argument.Setting.{Setting}
 use Rattle.arguments.specs.declared.argument.Setting.TheVariants.{A, B, X, Y, Flags, Budget}
 use Rattle.arguments.specs.declared.argument.Argument.{Argument}
@@ -16,9 +15,14 @@ starts_with [] s = true
 starts_with (c ∷ cs) [] = false
 starts_with (c ∷ cs) (d ∷ ds) = eqb d c && starts_with cs ds
 
-abbrev pub setting_of : Setting → Parsed → Argument
-setting_of n (Number v) = Set n v
-setting_of n Malformed = BadValue n
+abbrev pub setting_of : Setting → Option ℕ → Argument
+setting_of n (Some v) = Set n v
+setting_of n None = BadValue n
+
+-- the setting of a name, where a text begins with it
+unfoldable pub setting_in : (name : List ℕ) → Setting → (base most : ℕ) → List ℕ → Option Argument
+setting_in name n base most s =
+    cond (starts_with name s) (Some (setting_of n (number_of base most (drop (length name) s)))) None
 
 -- the name of a file is not empty
 unfoldable pub other_of : List ℕ → Argument

@@ -1,18 +1,20 @@
 -- The number that a text spells, in hexadecimal of either case or in decimal.
 -- Assumes nothing.
-use Rattle.std.specs.Prelude.{ℕ, ◌+◌, ◌*◌, cond, List, [], ◌∷◌, leb, ltb}
+use Rattle.std.specs.Prelude.{ℕ, ◌+◌, ◌*◌, cond, ◌&&◌, List, [], ◌∷◌, leb, ltb, Option, Some, None, option_and_then}
 use Rattle.lists.specs.Digit.{digit_of}
-use Rattle.arguments.specs.declared.number.Parsed.{Parsed}
-use Rattle.arguments.specs.declared.number.Parsed.TheVariants.{Number, Malformed}
 
--- digits after those whose value is v; the value stays at most `most`
-unfoldable pub spelled_from : (base most v : ℕ) → List ℕ → Parsed
-spelled_from b most v [] = Number v
+-- a digit after those whose value is v: the value of all, where the base has the digit and the value is at most `most`
+abbrev pub with_digit : (base most v : ℕ) → Option ℕ → Option ℕ
+with_digit b most v None = None
+with_digit b most v (Some d) = let w = v * b + d in cond (ltb d b && leb w most) (Some w) None
+
+-- digits after those whose value is v
+unfoldable pub spelled_from : (base most v : ℕ) → List ℕ → Option ℕ
+spelled_from b most v [] = Some v
 spelled_from b most v (c ∷ cs) =
-    let w = v * b + digit_of c in
-    cond (ltb (digit_of c) b) (cond (leb w most) (spelled_from b most w cs) Malformed) Malformed
+    option_and_then (λ w. spelled_from b most w cs) (with_digit b most v (digit_of c))
 
 -- a text without digits spells none
-unfoldable pub number_of : (base most : ℕ) → List ℕ → Parsed
-number_of b most [] = Malformed
+unfoldable pub number_of : (base most : ℕ) → List ℕ → Option ℕ
+number_of b most [] = None
 number_of b most (c ∷ cs) = spelled_from b most 0 (c ∷ cs)

@@ -1,8 +1,8 @@
 // What an argument says: NAME=VALUE, registers in hexadecimal and the budget in decimal; or a word alone.
-ghost use Rattle.std.specs.Prelude.{◌≡◌, true, ◌≤◌, length};
-ghost use Rattle.arguments.specs.Argument.{starts_with, setting_of, other_of, argument_of};
+ghost use Rattle.std.specs.Prelude.{◌≡◌, ◌≤◌};
+ghost use Rattle.arguments.specs.Argument.{setting_of, setting_in, other_of, argument_of};
 
-use crate::number::{Parsed, number};
+use crate::number::number;
 
 #[derive(Clone, Copy)]
 pub enum Setting {
@@ -27,77 +27,55 @@ pub enum Argument {
     Unknown,
 }
 
-// Whether a text begins so.
-#[tactic(auto, using(crate::proofs::Begins::too_short, crate::proofs::Begins::next_byte, crate::proofs::Begins::no_byte))]
-fn starts_with(s: &[u8], p: &[u8]) -> bool
-    ensures { (result ≡ starts_with p.now s.now)
-        × (result ≡ true → length p.now ≤ length s.now) }
+fn set_to(n: Setting, value: Option<u32>) -> Argument
+    ensures { result ≡ setting_of n value }
 {
-    if s.len() < p.len() {
-        return false;
+    match value {
+        Some(v) => Argument::Set(n, v),
+        None => Argument::BadValue(n),
     }
-    let mut i = 0;
-    while i < p.len() {
-        if s[i] != p[i] {
-            return false;
-        }
-        i += 1;
-    }
-    true
 }
 
-fn set_to(n: Setting, p: Parsed) -> Argument
-    ensures { result ≡ setting_of n p }
+// The setting of a name, where a text begins with it.
+#[tactic(auto, using(crate::proofs::Begins::begins), unfolding(crate::specs::Argument::setting_in))]
+fn read_setting(s: &[u8], name: &[u8], n: Setting, base: u32, most: u32) -> Option<Argument>
+    requires { base ≤ 16 }
+    ensures { result ≡ setting_in name.now n base most s.now }
 {
-    match p {
-        Parsed::Number(v) => Argument::Set(n, v),
-        Parsed::Malformed => Argument::BadValue(n),
-    }
+    let value = s.strip_prefix(name)?;
+    Some(set_to(n, number(value, base, most)))
 }
 
 // A file's name is not empty.
-#[tactic(auto, unfolding(crate::specs::Argument::other_of))]
+#[tactic(auto, using(crate::proofs::Begins::begins, crate::proofs::Begins::equals), unfolding(crate::specs::Argument::other_of))]
 fn other(s: &[u8]) -> Argument
     ensures { result ≡ other_of s.now }
 {
-    if s.len() == 0 {
+    if s.is_empty() {
         return Argument::Empty;
     }
-    if starts_with(s, b"memory=") {
-        if 7 < s.len() {
-            return Argument::Memory;
-        }
-        return Argument::NoFile;
+    if let Some(name) = s.strip_prefix(b"memory=") {
+        return if name.is_empty() {
+            Argument::NoFile
+        } else {
+            Argument::Memory
+        };
     }
-    if starts_with(s, b"summary") {
-        if s.len() == 7 {
-            return Argument::Summary;
-        }
+    if s == b"summary".as_slice() {
+        return Argument::Summary;
     }
     Argument::Unknown
 }
 
-#[tactic(auto, using(crate::proofs::Begins::rest), unfolding(crate::specs::Argument::argument_of))]
+#[tactic(auto, unfolding(crate::specs::Argument::argument_of, crate::specs::Argument::setting_in))]
 pub fn argument_in(s: &[u8]) -> Argument
     ensures { result ≡ argument_of s.now }
 {
-    if starts_with(s, b"a=") {
-        return set_to(Setting::A, number(&s[2..], 16, 255));
-    }
-    if starts_with(s, b"b=") {
-        return set_to(Setting::B, number(&s[2..], 16, 255));
-    }
-    if starts_with(s, b"x=") {
-        return set_to(Setting::X, number(&s[2..], 16, 65535));
-    }
-    if starts_with(s, b"y=") {
-        return set_to(Setting::Y, number(&s[2..], 16, 65535));
-    }
-    if starts_with(s, b"flags=") {
-        return set_to(Setting::Flags, number(&s[6..], 16, 255));
-    }
-    if starts_with(s, b"budget=") {
-        return set_to(Setting::Budget, number(&s[7..], 10, 4294967295));
-    }
-    other(s)
+    read_setting(s, b"a=", Setting::A, 16, 255)
+        .or_else(|| read_setting(s, b"b=", Setting::B, 16, 255))
+        .or_else(|| read_setting(s, b"x=", Setting::X, 16, 65535))
+        .or_else(|| read_setting(s, b"y=", Setting::Y, 16, 65535))
+        .or_else(|| read_setting(s, b"flags=", Setting::Flags, 16, 255))
+        .or_else(|| read_setting(s, b"budget=", Setting::Budget, 10, 4294967295))
+        .unwrap_or_else(|| other(s))
 }
