@@ -3,14 +3,14 @@
 
 - The manual's name stands behind each row of crates/opcodes/specs/Rows.antt, and with the number behind each action of
   specs/inner/Numbers.antt.
-- The three constants of crates/opcodes/src/table.rt are what the rows say.
-- An arm that tells an action apart by its number, `67 => .., // SUBA`, has the number of the name behind it: in
-  crates/opcodes/src/numbered.rt, where every action has an arm, and in crates/dispatch/src/lib.rt, where every one has
-  that does not wait.
+- The three statics of crates/opcodes/src/table.rt are what the rows say, and the actions and modes of
+  crates/opcodes/src/numbered.rt are the lists of specs/inner/Numbers.antt, an action with its number and name.
+- An arm of crates/dispatch/src/lib.rt that tells an action apart by its number, `67 => .., // SUBA`, has the number of
+  the name behind it; every action has one that does not wait.
 
 Run it after a row or the order has changed; a new arm may have any number before. With --check nothing is written, and
-the exit status is 1 where something would be. That the code's numbers and constants are right is proved; that the
-names are is not.
+the exit status is 1 where something would be. That the code's numbers and statics are right is proved; that the names
+are is not.
 """
 import re
 import sys
@@ -24,6 +24,8 @@ ROWS, NUMBERS, TABLE, NUMBERED = (
 )
 DISPATCH = CRATE.parent / "dispatch/src/lib.rt"
 WAITING = {"Wai", "Stop"}
+# The enums of an action's operands, by the names that specs/inner/Numbers.antt has for their modules.
+MODULES = {"I": "Inherent", "Un": "Unary", "Bi": "Binary", "Acc": "Accumulator", "Ix": "Index", "Wd": "Word"}
 # An arm, on one line or on several: its number, and behind it the name.
 ARM = re.compile(r"^( {8})(\d+)( => (?:[^\n]*|[^\n]*[({]\n.*?\n {8}[)}]*)(?:,|\}) // )([A-Z][A-Z, ]*)$", re.M | re.S)
 
@@ -56,23 +58,45 @@ def lines(entries, a_line):
     return "".join(f"    {', '.join(entries[i : i + a_line])}, // 0x{i:03x}\n" for i in range(0, PLACES, a_line))
 
 
-def with_constants(code, actions, modes):
-    """The code of the tables, with the constants that the rows say. TEST has no entry in the list of the actions: it is
+def with_statics(code, statics):
+    """The code, with the length and the entries of its statics."""
+    for name, length, text in statics:
+        static = rf"(static {name}: \[\w+; )\d+(\] = \[\n).*?(^\];)"
+        code, found = re.subn(static, lambda m: f"{m[1]}{length}{m[2]}{text}{m[3]}", code, flags=re.M | re.S)
+        assert found == 1, name
+    return code
+
+
+def with_tables(code, actions, modes):
+    """The code of the tables, with the statics that the rows say. TEST has no entry in the list of the actions: it is
     what every number past it stands for."""
     costs, action_at, mode_at = [0] * PLACES, [0] * PLACES, [0] * PLACES
     for row in rows():
         costs[row.place] = 256 * row.length + row.cycles
         action_at[row.place] = [*actions, "Test"].index(row.action)
         mode_at[row.place] = modes.index("Mode." + row.mode)
-    for name, text in (
-        ("COSTS", lines([f"0x{n:04x}" for n in costs], 8)),
-        ("ACTIONS", lines([str(n) for n in action_at], 16)),
-        ("MODES", lines([str(n) for n in mode_at], 16)),
-    ):
-        constant = rf"(const {name}: \[\w+; {PLACES}\] = \[\n).*?(^\];)"
-        code, found = re.subn(constant, lambda m: m[1] + text + m[2], code, flags=re.M | re.S)
-        assert found == 1, name
-    return code
+    return with_statics(code, [
+        ("COSTS", PLACES, lines([f"0x{n:04x}" for n in costs], 8)),
+        ("ACTIONS", PLACES, lines([str(n) for n in action_at], 16)),
+        ("MODES", PLACES, lines([str(n) for n in mode_at], 16)),
+    ])
+
+
+def in_code(action):
+    """An action as the code has it: `Action::Binary(Binary::Sub, Accumulator::A)`."""
+    kind, *operands = action.split()
+    written = ", ".join(MODULES[o.split(".")[0]] + "::" + o.split(".")[1] if "." in o else o for o in operands)
+    return f"Action::{kind}" + (f"({written})" if operands else "")
+
+
+def with_lists(code, actions, modes):
+    """The code of the numbers, with the lists of the specification."""
+    listed_actions = [f"    {in_code(a)}, // {n}: {names(a)}\n" for n, a in enumerate(actions)]
+    listed_modes = [f"    Mode::{m.removeprefix('Mode.')},\n" for m in modes]
+    return with_statics(code, [
+        ("ALL_ACTIONS", len(actions), "".join(listed_actions)),
+        ("ALL_MODES", len(modes), "".join(listed_modes)),
+    ])
 
 
 def numbered_arms(code, actions, file):
@@ -93,8 +117,8 @@ def main():
     new = {
         ROWS: named_rows(old[ROWS]),
         NUMBERS: named_numbers(old[NUMBERS]),
-        TABLE: with_constants(old[TABLE], actions, modes),
-        NUMBERED: numbered_arms(old[NUMBERED], numbers, NUMBERED),
+        TABLE: with_tables(old[TABLE], actions, modes),
+        NUMBERED: with_lists(old[NUMBERED], actions, modes),
         DISPATCH: numbered_arms(old[DISPATCH], {n: a for n, a in numbers.items() if a not in WAITING}, DISPATCH),
     }
     changed = [file for file in old if new[file] != old[file]]

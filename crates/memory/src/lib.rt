@@ -21,9 +21,7 @@ pub fn byte_at(mem: &Memory, at: u16) -> u8
 pub fn word_at(mem: &Memory, at: u16) -> u16
     ensures { result ≡ word_at mem.now at }
 {
-    let h = byte_at(mem, at) as u16;
-    let l = byte_at(mem, wrapping_add(at, 1)) as u16;
-    h * 256 + l
+    u16::from_be_bytes([byte_at(mem, at), byte_at(mem, wrapping_add(at, 1))])
 }
 
 #[tactic(auto, unfolding(crate::specs::Memory::with_byte))]
@@ -38,8 +36,9 @@ pub fn put_byte(mem: &mut Memory, at: u16, v: u8)
 pub fn put_word(mem: &mut Memory, at: u16, v: u16)
     ensures { mem.new ≡ with_stored mem.old at v }
 {
-    put_byte(mem, at, (v / 256) as u8);
-    put_byte(mem, wrapping_add(at, 1), (v % 256) as u8);
+    let [high, low] = v.to_be_bytes();
+    put_byte(mem, at, high);
+    put_byte(mem, wrapping_add(at, 1), low);
 }
 
 // A 16-bit push: the low byte at sp, then the high byte below it.
@@ -47,6 +46,7 @@ pub fn put_word(mem: &mut Memory, at: u16, v: u16)
 pub fn push_word(mem: &mut Memory, sp: u16, v: u16)
     ensures { mem.new ≡ with_pushed mem.old sp v }
 {
-    put_byte(mem, sp, (v % 256) as u8);
-    put_byte(mem, wrapping_sub(sp, 1), (v / 256) as u8);
+    let [high, low] = v.to_be_bytes();
+    put_byte(mem, sp, low);
+    put_byte(mem, wrapping_sub(sp, 1), high);
 }

@@ -25,7 +25,7 @@ pub fn mode_at(place: usize) -> Mode
 fn word_from(high: u8, low: u8) -> u16
     ensures { result ≡ word_from high low }
 {
-    (high as u16) * 256 + (low as u16)
+    u16::from_be_bytes([high, low])
 }
 
 // An operand of a mode, from the three bytes after the opcode.

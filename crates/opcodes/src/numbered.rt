@@ -1,206 +1,186 @@
-// The action and the mode that a number of the tables stands for. The actions go by the groups of
-// specs/inner/Numbers.antt: one match of all of them takes far longer to prove. tools/opcode_tables.py writes an arm's
-// number, by the name behind it.
-ghost use Rattle.std.specs.Prelude.{◌≡◌, ◌≤◌};
+// The action and the mode that a number of the tables stands for: each stands at its number in a list that
+// tools/opcode_tables.py writes from that of specs/. The tables hold numbers since the step goes by them, for speed.
+ghost use Rattle.std.specs.Prelude.{◌≡◌, get_or};
 ghost use Rattle.opcodes.specs.inner.Numbers.{action_of, mode_of};
 
 use crate::instruction::{Accumulator, Action, Binary, Index, Inherent, Mode, Unary, Word};
 
-// 97 and more: one that stores, branches, jumps or waits; a number that stands for none is refused as TEST is.
-fn address_action(n: u8) -> Action
-    requires { 97 ≤ n }
-    ensures { result ≡ action_of n }
+#[rattlefmt::skip]
+static ALL_ACTIONS: [Action; 137] = [
+    Action::Inherent(Inherent::Nop), // 0: NOP
+    Action::Inherent(Inherent::Idiv), // 1: IDIV
+    Action::Inherent(Inherent::Fdiv), // 2: FDIV
+    Action::Inherent(Inherent::Lsrd), // 3: LSRD
+    Action::Inherent(Inherent::Asld), // 4: ASLD, LSLD
+    Action::Inherent(Inherent::Tap), // 5: TAP
+    Action::Inherent(Inherent::Tpa), // 6: TPA
+    Action::Inherent(Inherent::Inx), // 7: INX
+    Action::Inherent(Inherent::Dex), // 8: DEX
+    Action::Inherent(Inherent::Iny), // 9: INY
+    Action::Inherent(Inherent::Dey), // 10: DEY
+    Action::Inherent(Inherent::Clv), // 11: CLV
+    Action::Inherent(Inherent::Sev), // 12: SEV
+    Action::Inherent(Inherent::Clc), // 13: CLC
+    Action::Inherent(Inherent::Sec), // 14: SEC
+    Action::Inherent(Inherent::Cli), // 15: CLI
+    Action::Inherent(Inherent::Sei), // 16: SEI
+    Action::Inherent(Inherent::Sba), // 17: SBA
+    Action::Inherent(Inherent::Cba), // 18: CBA
+    Action::Inherent(Inherent::Tab), // 19: TAB
+    Action::Inherent(Inherent::Tba), // 20: TBA
+    Action::Inherent(Inherent::Daa), // 21: DAA
+    Action::Inherent(Inherent::Aba), // 22: ABA
+    Action::Inherent(Inherent::Tsx), // 23: TSX
+    Action::Inherent(Inherent::Tsy), // 24: TSY
+    Action::Inherent(Inherent::Abx), // 25: ABX
+    Action::Inherent(Inherent::Aby), // 26: ABY
+    Action::Inherent(Inherent::Mul), // 27: MUL
+    Action::Inherent(Inherent::Xgdx), // 28: XGDX
+    Action::Inherent(Inherent::Xgdy), // 29: XGDY
+    Action::Unary(Unary::Neg, Accumulator::A), // 30: NEGA
+    Action::Unary(Unary::Com, Accumulator::A), // 31: COMA
+    Action::Unary(Unary::Lsr, Accumulator::A), // 32: LSRA
+    Action::Unary(Unary::Ror, Accumulator::A), // 33: RORA
+    Action::Unary(Unary::Asr, Accumulator::A), // 34: ASRA
+    Action::Unary(Unary::Asl, Accumulator::A), // 35: ASLA, LSLA
+    Action::Unary(Unary::Rol, Accumulator::A), // 36: ROLA
+    Action::Unary(Unary::Dec, Accumulator::A), // 37: DECA
+    Action::Unary(Unary::Inc, Accumulator::A), // 38: INCA
+    Action::Unary(Unary::Clr, Accumulator::A), // 39: CLRA
+    Action::Unary(Unary::Neg, Accumulator::B), // 40: NEGB
+    Action::Unary(Unary::Com, Accumulator::B), // 41: COMB
+    Action::Unary(Unary::Lsr, Accumulator::B), // 42: LSRB
+    Action::Unary(Unary::Ror, Accumulator::B), // 43: RORB
+    Action::Unary(Unary::Asr, Accumulator::B), // 44: ASRB
+    Action::Unary(Unary::Asl, Accumulator::B), // 45: ASLB, LSLB
+    Action::Unary(Unary::Rol, Accumulator::B), // 46: ROLB
+    Action::Unary(Unary::Dec, Accumulator::B), // 47: DECB
+    Action::Unary(Unary::Inc, Accumulator::B), // 48: INCB
+    Action::Unary(Unary::Clr, Accumulator::B), // 49: CLRB
+    Action::TstAccumulator(Accumulator::A), // 50: TSTA
+    Action::TstAccumulator(Accumulator::B), // 51: TSTB
+    Action::Rts, // 52: RTS
+    Action::PushByte(Accumulator::A), // 53: PSHA
+    Action::PushByte(Accumulator::B), // 54: PSHB
+    Action::PushWord(Index::X), // 55: PSHX
+    Action::PushWord(Index::Y), // 56: PSHY
+    Action::PullByte(Accumulator::A), // 57: PULA
+    Action::PullByte(Accumulator::B), // 58: PULB
+    Action::PullWord(Index::X), // 59: PULX
+    Action::PullWord(Index::Y), // 60: PULY
+    Action::Des, // 61: DES
+    Action::Ins, // 62: INS
+    Action::SetStack(Index::X), // 63: TXS
+    Action::SetStack(Index::Y), // 64: TYS
+    Action::Swi, // 65: SWI
+    Action::Rti, // 66: RTI
+    Action::Binary(Binary::Sub, Accumulator::A), // 67: SUBA
+    Action::Binary(Binary::Cmp, Accumulator::A), // 68: CMPA
+    Action::Binary(Binary::Sbc, Accumulator::A), // 69: SBCA
+    Action::Binary(Binary::And, Accumulator::A), // 70: ANDA
+    Action::Binary(Binary::Bit, Accumulator::A), // 71: BITA
+    Action::Binary(Binary::Lda, Accumulator::A), // 72: LDAA
+    Action::Binary(Binary::Eor, Accumulator::A), // 73: EORA
+    Action::Binary(Binary::Adc, Accumulator::A), // 74: ADCA
+    Action::Binary(Binary::Ora, Accumulator::A), // 75: ORAA
+    Action::Binary(Binary::Add, Accumulator::A), // 76: ADDA
+    Action::Binary(Binary::Sub, Accumulator::B), // 77: SUBB
+    Action::Binary(Binary::Cmp, Accumulator::B), // 78: CMPB
+    Action::Binary(Binary::Sbc, Accumulator::B), // 79: SBCB
+    Action::Binary(Binary::And, Accumulator::B), // 80: ANDB
+    Action::Binary(Binary::Bit, Accumulator::B), // 81: BITB
+    Action::Binary(Binary::Lda, Accumulator::B), // 82: LDAB
+    Action::Binary(Binary::Eor, Accumulator::B), // 83: EORB
+    Action::Binary(Binary::Adc, Accumulator::B), // 84: ADCB
+    Action::Binary(Binary::Ora, Accumulator::B), // 85: ORAB
+    Action::Binary(Binary::Add, Accumulator::B), // 86: ADDB
+    Action::TstMemory, // 87: TST
+    Action::LoadWord(Word::D), // 88: LDD
+    Action::LoadWord(Word::X), // 89: LDX
+    Action::LoadWord(Word::Y), // 90: LDY
+    Action::LoadWord(Word::S), // 91: LDS
+    Action::Addd, // 92: ADDD
+    Action::Subd, // 93: SUBD
+    Action::CompareWord(Word::D), // 94: CPD
+    Action::CompareWord(Word::X), // 95: CPX
+    Action::CompareWord(Word::Y), // 96: CPY
+    Action::StoreByte(Accumulator::A), // 97: STAA
+    Action::StoreByte(Accumulator::B), // 98: STAB
+    Action::StoreWord(Word::D), // 99: STD
+    Action::StoreWord(Word::X), // 100: STX
+    Action::StoreWord(Word::Y), // 101: STY
+    Action::StoreWord(Word::S), // 102: STS
+    Action::Modify(Unary::Neg), // 103: NEG
+    Action::Modify(Unary::Com), // 104: COM
+    Action::Modify(Unary::Lsr), // 105: LSR
+    Action::Modify(Unary::Ror), // 106: ROR
+    Action::Modify(Unary::Asr), // 107: ASR
+    Action::Modify(Unary::Asl), // 108: ASL, LSL
+    Action::Modify(Unary::Rol), // 109: ROL
+    Action::Modify(Unary::Dec), // 110: DEC
+    Action::Modify(Unary::Inc), // 111: INC
+    Action::Modify(Unary::Clr), // 112: CLR
+    Action::Bset, // 113: BSET
+    Action::Bclr, // 114: BCLR
+    Action::Brset, // 115: BRSET
+    Action::Brclr, // 116: BRCLR
+    Action::Branch(0), // 117: BRA
+    Action::Branch(1), // 118: BRN
+    Action::Branch(2), // 119: BHI
+    Action::Branch(3), // 120: BLS
+    Action::Branch(4), // 121: BCC, BHS
+    Action::Branch(5), // 122: BCS, BLO
+    Action::Branch(6), // 123: BNE
+    Action::Branch(7), // 124: BEQ
+    Action::Branch(8), // 125: BVC
+    Action::Branch(9), // 126: BVS
+    Action::Branch(10), // 127: BPL
+    Action::Branch(11), // 128: BMI
+    Action::Branch(12), // 129: BGE
+    Action::Branch(13), // 130: BLT
+    Action::Branch(14), // 131: BGT
+    Action::Branch(15), // 132: BLE
+    Action::Jmp, // 133: JMP
+    Action::Call, // 134: JSR, BSR
+    Action::Wai, // 135: WAI
+    Action::Stop, // 136: STOP
+];
+
+#[rattlefmt::skip]
+static ALL_MODES: [Mode; 14] = [
+    Mode::Inherent,
+    Mode::Immediate8,
+    Mode::Immediate16,
+    Mode::Direct,
+    Mode::Extended,
+    Mode::IndexedX,
+    Mode::IndexedY,
+    Mode::Relative,
+    Mode::MaskDirect,
+    Mode::MaskX,
+    Mode::MaskY,
+    Mode::MaskBranchDirect,
+    Mode::MaskBranchX,
+    Mode::MaskBranchY,
+];
+
+// What a list has at a number, and d past its end.
+fn entry_or<T: Copy + Drop>(list: &[T], n: u8, d: T) -> T
+    ensures { result ≡ get_or list.now n d }
 {
-    match n {
-        97 => Action::StoreByte(Accumulator::A), // STAA
-        98 => Action::StoreByte(Accumulator::B), // STAB
-        99 => Action::StoreWord(Word::D), // STD
-        100 => Action::StoreWord(Word::X), // STX
-        101 => Action::StoreWord(Word::Y), // STY
-        102 => Action::StoreWord(Word::S), // STS
-        103 => Action::Modify(Unary::Neg), // NEG
-        104 => Action::Modify(Unary::Com), // COM
-        105 => Action::Modify(Unary::Lsr), // LSR
-        106 => Action::Modify(Unary::Ror), // ROR
-        107 => Action::Modify(Unary::Asr), // ASR
-        108 => Action::Modify(Unary::Asl), // ASL, LSL
-        109 => Action::Modify(Unary::Rol), // ROL
-        110 => Action::Modify(Unary::Dec), // DEC
-        111 => Action::Modify(Unary::Inc), // INC
-        112 => Action::Modify(Unary::Clr), // CLR
-        113 => Action::Bset, // BSET
-        114 => Action::Bclr, // BCLR
-        115 => Action::Brset, // BRSET
-        116 => Action::Brclr, // BRCLR
-        117 => Action::Branch(0), // BRA
-        118 => Action::Branch(1), // BRN
-        119 => Action::Branch(2), // BHI
-        120 => Action::Branch(3), // BLS
-        121 => Action::Branch(4), // BCC, BHS
-        122 => Action::Branch(5), // BCS, BLO
-        123 => Action::Branch(6), // BNE
-        124 => Action::Branch(7), // BEQ
-        125 => Action::Branch(8), // BVC
-        126 => Action::Branch(9), // BVS
-        127 => Action::Branch(10), // BPL
-        128 => Action::Branch(11), // BMI
-        129 => Action::Branch(12), // BGE
-        130 => Action::Branch(13), // BLT
-        131 => Action::Branch(14), // BGT
-        132 => Action::Branch(15), // BLE
-        133 => Action::Jmp, // JMP
-        134 => Action::Call, // JSR, BSR
-        135 => Action::Wai, // WAI
-        136 => Action::Stop, // STOP
-        _ => Action::Test,
-    }
+    list.get(n as usize).copied().unwrap_or(d)
 }
 
-// 67 and more: one that reads an operand, or a later one.
-fn operand_action(n: u8) -> Action
-    requires { 67 ≤ n }
-    ensures { result ≡ action_of n }
-{
-    match n {
-        67 => Action::Binary(Binary::Sub, Accumulator::A), // SUBA
-        68 => Action::Binary(Binary::Cmp, Accumulator::A), // CMPA
-        69 => Action::Binary(Binary::Sbc, Accumulator::A), // SBCA
-        70 => Action::Binary(Binary::And, Accumulator::A), // ANDA
-        71 => Action::Binary(Binary::Bit, Accumulator::A), // BITA
-        72 => Action::Binary(Binary::Lda, Accumulator::A), // LDAA
-        73 => Action::Binary(Binary::Eor, Accumulator::A), // EORA
-        74 => Action::Binary(Binary::Adc, Accumulator::A), // ADCA
-        75 => Action::Binary(Binary::Ora, Accumulator::A), // ORAA
-        76 => Action::Binary(Binary::Add, Accumulator::A), // ADDA
-        77 => Action::Binary(Binary::Sub, Accumulator::B), // SUBB
-        78 => Action::Binary(Binary::Cmp, Accumulator::B), // CMPB
-        79 => Action::Binary(Binary::Sbc, Accumulator::B), // SBCB
-        80 => Action::Binary(Binary::And, Accumulator::B), // ANDB
-        81 => Action::Binary(Binary::Bit, Accumulator::B), // BITB
-        82 => Action::Binary(Binary::Lda, Accumulator::B), // LDAB
-        83 => Action::Binary(Binary::Eor, Accumulator::B), // EORB
-        84 => Action::Binary(Binary::Adc, Accumulator::B), // ADCB
-        85 => Action::Binary(Binary::Ora, Accumulator::B), // ORAB
-        86 => Action::Binary(Binary::Add, Accumulator::B), // ADDB
-        87 => Action::TstMemory, // TST
-        88 => Action::LoadWord(Word::D), // LDD
-        89 => Action::LoadWord(Word::X), // LDX
-        90 => Action::LoadWord(Word::Y), // LDY
-        91 => Action::LoadWord(Word::S), // LDS
-        92 => Action::Addd, // ADDD
-        93 => Action::Subd, // SUBD
-        94 => Action::CompareWord(Word::D), // CPD
-        95 => Action::CompareWord(Word::X), // CPX
-        96 => Action::CompareWord(Word::Y), // CPY
-        _ => address_action(n),
-    }
-}
-
-// 30 and more: one on an accumulator or the stack, or a later one.
-fn stack_action(n: u8) -> Action
-    requires { 30 ≤ n }
-    ensures { result ≡ action_of n }
-{
-    match n {
-        30 => Action::Unary(Unary::Neg, Accumulator::A), // NEGA
-        31 => Action::Unary(Unary::Com, Accumulator::A), // COMA
-        32 => Action::Unary(Unary::Lsr, Accumulator::A), // LSRA
-        33 => Action::Unary(Unary::Ror, Accumulator::A), // RORA
-        34 => Action::Unary(Unary::Asr, Accumulator::A), // ASRA
-        35 => Action::Unary(Unary::Asl, Accumulator::A), // ASLA, LSLA
-        36 => Action::Unary(Unary::Rol, Accumulator::A), // ROLA
-        37 => Action::Unary(Unary::Dec, Accumulator::A), // DECA
-        38 => Action::Unary(Unary::Inc, Accumulator::A), // INCA
-        39 => Action::Unary(Unary::Clr, Accumulator::A), // CLRA
-        40 => Action::Unary(Unary::Neg, Accumulator::B), // NEGB
-        41 => Action::Unary(Unary::Com, Accumulator::B), // COMB
-        42 => Action::Unary(Unary::Lsr, Accumulator::B), // LSRB
-        43 => Action::Unary(Unary::Ror, Accumulator::B), // RORB
-        44 => Action::Unary(Unary::Asr, Accumulator::B), // ASRB
-        45 => Action::Unary(Unary::Asl, Accumulator::B), // ASLB, LSLB
-        46 => Action::Unary(Unary::Rol, Accumulator::B), // ROLB
-        47 => Action::Unary(Unary::Dec, Accumulator::B), // DECB
-        48 => Action::Unary(Unary::Inc, Accumulator::B), // INCB
-        49 => Action::Unary(Unary::Clr, Accumulator::B), // CLRB
-        50 => Action::TstAccumulator(Accumulator::A), // TSTA
-        51 => Action::TstAccumulator(Accumulator::B), // TSTB
-        52 => Action::Rts, // RTS
-        53 => Action::PushByte(Accumulator::A), // PSHA
-        54 => Action::PushByte(Accumulator::B), // PSHB
-        55 => Action::PushWord(Index::X), // PSHX
-        56 => Action::PushWord(Index::Y), // PSHY
-        57 => Action::PullByte(Accumulator::A), // PULA
-        58 => Action::PullByte(Accumulator::B), // PULB
-        59 => Action::PullWord(Index::X), // PULX
-        60 => Action::PullWord(Index::Y), // PULY
-        61 => Action::Des, // DES
-        62 => Action::Ins, // INS
-        63 => Action::SetStack(Index::X), // TXS
-        64 => Action::SetStack(Index::Y), // TYS
-        65 => Action::Swi, // SWI
-        66 => Action::Rti, // RTI
-        _ => operand_action(n),
-    }
-}
-
-// The action of a number.
+// A number past the list is refused as TEST is.
 pub fn action_of(n: u8) -> Action
     ensures { result ≡ action_of n }
 {
-    match n {
-        0 => Action::Inherent(Inherent::Nop), // NOP
-        1 => Action::Inherent(Inherent::Idiv), // IDIV
-        2 => Action::Inherent(Inherent::Fdiv), // FDIV
-        3 => Action::Inherent(Inherent::Lsrd), // LSRD
-        4 => Action::Inherent(Inherent::Asld), // ASLD, LSLD
-        5 => Action::Inherent(Inherent::Tap), // TAP
-        6 => Action::Inherent(Inherent::Tpa), // TPA
-        7 => Action::Inherent(Inherent::Inx), // INX
-        8 => Action::Inherent(Inherent::Dex), // DEX
-        9 => Action::Inherent(Inherent::Iny), // INY
-        10 => Action::Inherent(Inherent::Dey), // DEY
-        11 => Action::Inherent(Inherent::Clv), // CLV
-        12 => Action::Inherent(Inherent::Sev), // SEV
-        13 => Action::Inherent(Inherent::Clc), // CLC
-        14 => Action::Inherent(Inherent::Sec), // SEC
-        15 => Action::Inherent(Inherent::Cli), // CLI
-        16 => Action::Inherent(Inherent::Sei), // SEI
-        17 => Action::Inherent(Inherent::Sba), // SBA
-        18 => Action::Inherent(Inherent::Cba), // CBA
-        19 => Action::Inherent(Inherent::Tab), // TAB
-        20 => Action::Inherent(Inherent::Tba), // TBA
-        21 => Action::Inherent(Inherent::Daa), // DAA
-        22 => Action::Inherent(Inherent::Aba), // ABA
-        23 => Action::Inherent(Inherent::Tsx), // TSX
-        24 => Action::Inherent(Inherent::Tsy), // TSY
-        25 => Action::Inherent(Inherent::Abx), // ABX
-        26 => Action::Inherent(Inherent::Aby), // ABY
-        27 => Action::Inherent(Inherent::Mul), // MUL
-        28 => Action::Inherent(Inherent::Xgdx), // XGDX
-        29 => Action::Inherent(Inherent::Xgdy), // XGDY
-        _ => stack_action(n),
-    }
+    entry_or(&ALL_ACTIONS, n, Action::Test)
 }
 
-// The mode of a number; one that stands for none has no operand.
+// A number past the list has no operand.
 pub fn mode_of(n: u8) -> Mode
     ensures { result ≡ mode_of n }
 {
-    match n {
-        0 => Mode::Inherent,
-        1 => Mode::Immediate8,
-        2 => Mode::Immediate16,
-        3 => Mode::Direct,
-        4 => Mode::Extended,
-        5 => Mode::IndexedX,
-        6 => Mode::IndexedY,
-        7 => Mode::Relative,
-        8 => Mode::MaskDirect,
-        9 => Mode::MaskX,
-        10 => Mode::MaskY,
-        11 => Mode::MaskBranchDirect,
-        12 => Mode::MaskBranchX,
-        13 => Mode::MaskBranchY,
-        _ => Mode::Inherent,
-    }
+    entry_or(&ALL_MODES, n, Mode::Inherent)
 }

@@ -81,7 +81,7 @@ impl Registers {
     pub fn d(self) -> u16
         ensures { result ≡ accumulator_d (data_of self) }
     {
-        (self.a as u16) * 256 + (self.b as u16)
+        u16::from_be_bytes([self.a, self.b])
     }
 
     pub fn with_a(self, a: u8, flags: u8) -> Registers
@@ -99,9 +99,10 @@ impl Registers {
     pub fn with_d(self, d: u16, flags: u8) -> Registers
         ensures { result ≡ with_data self (with_d (data_of self) d flags) }
     {
+        let [a, b] = d.to_be_bytes();
         Registers {
-            a: (d / 256) as u8,
-            b: (d % 256) as u8,
+            a,
+            b,
             flags,
             ..self
         }
