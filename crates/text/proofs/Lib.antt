@@ -1,8 +1,6 @@
 pub mod Digits
 pub mod Spelled
-mod Backward
 mod ListingColumns
 pub mod Listed
 mod VerdictParts
 pub mod VerdictsApart
-mod Written

@@ -1,12 +1,8 @@
--- What a line that grows holds; a label and a number; a label and what was used of what is allowed.
+-- A label and a number; a label and what was used of what is allowed.
 -- Assumes nothing.
-use Rattle.std.specs.Prelude.{ℕ, List, ◌++◌, take}
+use Rattle.std.specs.Prelude.{ℕ, List, ◌++◌}
 use Rattle.lists.specs.Ascii.{ascii}
 use Rattle.text.specs.Number.{decimal_of}
-use Rattle.text.specs.declared.line.Line.{Line}
-
-unfoldable pub written : Line → List ℕ
-written l = take l.len l.bytes
 
 unfoldable pub field_text : (label : List ℕ) (n : ℕ) → List ℕ
 field_text label n = label ++ decimal_of n

@@ -1,9 +1,8 @@
 -- The checking program's line: ACCEPT with the entry in four hexadecimal digits, the cost and the stack bytes; REFUSE
 -- with number and place (document 01, "One routine, read aloud").
 -- Assumes nothing.
-use Rattle.std.specs.Prelude.{ℕ, List, ◌++◌}
-use Rattle.answers.specs.declared.Verdict.{Verdict}
-use Rattle.answers.specs.declared.Verdict.TheVariants.{Accept, Refuse}
+use Rattle.std.specs.Prelude.{ℕ, List, ◌++◌, Ok, Err}
+use Rattle.answers.specs.Verdict.{Verdict}
 use Rattle.lists.specs.Ascii.{ascii}
 use Rattle.text.specs.Number.{hex_of, decimal_of}
 
@@ -26,5 +25,5 @@ unfoldable pub refuse_line : (number place : ℕ) → List ℕ
 refuse_line n p = refuse ++ (decimal_of n ++ (space ++ (decimal_of p ++ end)))
 
 abbrev pub line_of : Verdict → List ℕ
-line_of (Accept e c s) = accept_line e c.0 s.0
-line_of (Refuse r) = refuse_line r.number r.place
+line_of (Ok a) = accept_line a.entry a.cost.0 a.stack.0
+line_of (Err r) = refuse_line r.number r.place

@@ -2,11 +2,10 @@
 // budget did not cover the way, it stands in place of the certified cycles.
 ghost use Rattle.std.specs.Prelude.{◌≡◌, ◌≤◌, length};
 ghost use Rattle.lists.specs.Splice.{spliced};
-ghost use Rattle.text.specs.Line.{written};
 ghost use Rattle.text.specs.Last.{totals_text, home_line, spent_line};
 
-use crate::columns::with_word;
-use crate::line::{Line, empty, put, with_pair, with_text};
+use crate::line::Line;
+use crate::number::hex4;
 use registers::{Cycles, StackBytes};
 
 #[derive(Clone, Copy)]
@@ -22,28 +21,29 @@ pub struct Totals {
 #[tactic(auto, unfolding(crate::specs::Last::totals_text))]
 fn line(label: &[u8], t: Totals) -> Line
     requires { length label.now ≤ 32 }
-    ensures { (written result ≡ totals_text label.now t) × (result.len ≤ 256) }
+    ensures { result ≡ totals_text label.now t }
 {
-    let a = with_pair(empty(), label, t.cycles.0, t.allowed.0);
-    let b = with_pair(a, b" stack=", t.stack.0 as u32, t.certified.0 as u32);
-    let c = with_word(b, b" lowest=", t.lowest);
-    let d = with_word(c, b" home=", t.home);
-    with_text(d, b"\n")
+    Line::empty()
+        .with_pair(label, t.cycles.0, t.allowed.0)
+        .with_pair(b" stack=", u32::from(t.stack.0), u32::from(t.certified.0))
+        .with_text(b" lowest=")
+        .with_text(&hex4(t.lowest))
+        .with_text(b" home=")
+        .with_text(&hex4(t.home))
+        .with_text(b"\n")
 }
 
 // How many bytes the line has; it stands at the beginning of the output.
-pub fn put_home(t: Totals, out: &mut [u8]) -> usize
-    requires { length out.old ≡ 256 }
+pub fn put_home(t: Totals, out: &mut [u8; 256]) -> usize
     ensures { (out.new ≡ spliced out.old 0 (home_line t)) × (result ≡ length (home_line t))
         × (result ≤ 256) }
 {
-    put(line(b"HOME cycles=", t), out)
+    line(b"HOME cycles=", t).put(out)
 }
 
-pub fn put_spent(t: Totals, out: &mut [u8]) -> usize
-    requires { length out.old ≡ 256 }
+pub fn put_spent(t: Totals, out: &mut [u8; 256]) -> usize
     ensures { (out.new ≡ spliced out.old 0 (spent_line t)) × (result ≡ length (spent_line t))
         × (result ≤ 256) }
 {
-    put(line(b"SPENT cycles=", t), out)
+    line(b"SPENT cycles=", t).put(out)
 }

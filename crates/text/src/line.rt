@@ -1,76 +1,87 @@
-// A line that grows: texts, and labels with numbers.
-ghost use Rattle.std.specs.Prelude.{◌≡◌, [], ◌++◌, ◌+◌, ◌≤◌, length};
+// A line that grows: texts and numbers, one after another.
+ghost use Rattle.std.specs.Prelude.{◌≡◌, ℕ, List, [], ◌∷◌, ◌++◌, ◌+◌, ◌≤◌, length, take};
 ghost use Rattle.lists.specs.Splice.{spliced};
-ghost use Rattle.text.specs.Line.{written, field_text, pair_text};
+ghost use Rattle.text.specs.Line.{field_text, pair_text};
 ghost use Rattle.text.specs.Number.{decimal_of};
 
-use crate::number::{put_decimal, put_text};
+use crate::number::put_text;
+use std::marker::Model;
 
-// The first `len` bytes are the line's so far.
-#[derive(Clone, Copy)]
+// A contract sees the bytes so far. The others of the buffer are room.
+#[derive(Drop)]
 pub struct Line {
-    pub bytes: [u8; 256],
-    pub len: usize,
+    bytes: [u8; 256],
+    len: usize,
 }
 
-#[tactic(auto, unfolding(crate::specs::Line::written))]
-pub fn empty() -> Line
-    ensures { (written result ≡ []) × (result.len ≡ 0) }
-{
-    Line {
-        bytes: [0; 256],
-        len: 0,
+impl Model for Line {
+    ghost Value = { List ℕ };
+
+    ghost view = { λ l. take l.len l.bytes };
+
+    ghost invariant = { λ l. l.len ≤ 256 };
+}
+
+impl Line {
+    pub fn empty() -> Line
+        ensures { result ≡ [] }
+    {
+        Line {
+            bytes: [0; 256],
+            len: 0,
+        }
     }
-}
 
-#[tactic(auto, using(crate::proofs::Written::grown), unfolding(crate::specs::Line::written))]
-pub fn with_text(l: Line, s: &[u8]) -> Line
-    requires { l.len + length s.now ≤ 256 }
-    ensures { (written result ≡ written l ++ s.now) × (result.len ≡ l.len + length s.now) }
-{
-    let mut bytes = l.bytes;
-    let len = put_text(&mut bytes, l.len, s);
-    Line { bytes, len }
-}
+    pub fn with_text(mut self, s: &[u8]) -> Line
+        requires { length self + length s.now ≤ 256 }
+        ensures { result ≡ self ++ s.now }
+    {
+        let at = self.len;
+        self.len = put_text(&mut self.bytes, at, s);
+        self
+    }
 
-#[tactic(auto, using(crate::proofs::Written::grown), unfolding(crate::specs::Line::written))]
-fn with_number(l: Line, n: u32) -> Line
-    requires { l.len + 10 ≤ 256 }
-    ensures { (written result ≡ written l ++ decimal_of n) × (result.len ≤ l.len + 10) }
-{
-    let mut bytes = l.bytes;
-    let len = put_decimal(&mut bytes, l.len, n);
-    Line { bytes, len }
-}
+    // Its decimal digits, without leading zeros: ten at most.
+    pub fn with_number(self, n: u32) -> Line
+        requires { length self + length (decimal_of n) ≤ 256 }
+        ensures { result ≡ self ++ decimal_of n }
+    {
+        let front = if n < 10 {
+            self
+        } else {
+            self.with_number(n / 10)
+        };
+        front.with_text(&[b'0' + (n % 10) as u8])
+    }
 
-#[tactic(auto, unfolding(crate::specs::Line::field_text))]
-pub fn with_field(l: Line, label: &[u8], n: u32) -> Line
-    requires { l.len + length label.now + 10 ≤ 256 }
-    ensures { (written result ≡ written l ++ field_text label.now n)
-        × (result.len ≤ l.len + length label.now + 10) }
-{
-    with_number(with_text(l, label), n)
-}
+    pub fn with_field(self, label: &[u8], n: u32) -> Line
+        requires { length self + length label.now + 10 ≤ 256 }
+        ensures { (result ≡ self ++ field_text label.now n)
+            × (length result ≤ length self + length label.now + 10) }
+    {
+        self.with_text(label).with_number(n)
+    }
 
-// What was used of what is allowed.
-#[tactic(auto, unfolding(crate::specs::Line::pair_text))]
-pub fn with_pair(l: Line, label: &[u8], used: u32, allowed: u32) -> Line
-    requires { l.len + length label.now + 21 ≤ 256 }
-    ensures { (written result ≡ written l ++ pair_text label.now used allowed)
-        × (result.len ≤ l.len + length label.now + 21) }
-{
-    let a = with_field(l, label, used);
-    with_field(a, b"/", allowed)
-}
+    // What was used of what is allowed.
+    #[tactic(auto, unfolding(crate::specs::Line::pair_text))]
+    pub fn with_pair(self, label: &[u8], used: u32, allowed: u32) -> Line
+        requires { length self + length label.now + 21 ≤ 256 }
+        ensures { (result ≡ self ++ pair_text label.now used allowed)
+            × (length result ≤ length self + length label.now + 21) }
+    {
+        self.with_field(label, used).with_field(b"/", allowed)
+    }
 
-// How many bytes the line has; it stands at the beginning of the output.
-#[tactic(auto, unfolding(crate::specs::Line::written))]
-pub fn put(l: Line, out: &mut [u8]) -> usize
-    requires { (l.len ≤ 256) × (length out.old ≡ 256) }
-    ensures { (out.new ≡ spliced out.old 0 (written l)) × (result ≡ length (written l))
-        × (result ≤ 256) }
-{
-    let bytes = l.bytes;
-    let len = l.len;
-    put_text(out, 0, &bytes[..len])
+    pub fn as_bytes(&self) -> &[u8]
+        ensures { (result.now ≡ self.now) × (length result.now ≤ 256) }
+    {
+        &self.bytes[..self.len]
+    }
+
+    // How many bytes the line has; it stands at the beginning of the output.
+    pub fn put(&self, out: &mut [u8; 256]) -> usize
+        ensures { (out.new ≡ spliced out.old 0 self.now) × (result ≡ length self.now) × (result ≤ 256) }
+    {
+        put_text(out, 0, self.as_bytes())
+    }
 }

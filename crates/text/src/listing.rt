@@ -9,8 +9,7 @@ use crate::mnemonic::mnemonic;
 use crate::number::hex2;
 use crate::operand::operand;
 use opcodes::decoder::{action_at, mode_at};
-use opcodes::lookup::{Found, found_of};
-use opcodes::table::{actions, costs, modes};
+use opcodes::lookup::found_of;
 use registers::word::wrapping_add;
 
 // Its bytes in hexadecimal, its mnemonic and its operand, each padded with spaces.
@@ -25,7 +24,7 @@ pub struct Listing {
 fn column(shown: bool, b: u8) -> [u8; 2]
     ensures { result ≡ column_of shown b }
 {
-    if shown { hex2(b) } else { [b' ', b' '] }
+    if shown { hex2(b) } else { *b"  " }
 }
 
 // The first n of five bytes.
@@ -51,13 +50,10 @@ fn listed(place: usize, bytes: [u8; 14], u: u8, v: u8, w: u8, next: u16) -> List
       operand = operand_text (mode_at place) u v w next;
     } }
 {
-    let ta = actions();
-    let tm = modes();
-    let action = action_at(place, &ta);
-    let mode = mode_at(place, &tm);
+    let mode = mode_at(place);
     Listing {
         bytes,
-        mnemonic: mnemonic(action, mode),
+        mnemonic: mnemonic(action_at(place), mode),
         operand: operand(mode, u, v, w, next),
     }
 }
@@ -67,26 +63,19 @@ fn listed(place: usize, bytes: [u8; 14], u: u8, v: u8, w: u8, next: u16) -> List
 pub fn list(pc: u16, a: u8, b: u8, c: u8, d: u8, e: u8) -> Listing
     ensures { result ≡ listing_of pc (five a b c d e) }
 {
-    let tc = costs();
-    match found_of(a, b, &tc) {
-        Found::Nothing => Listing {
+    let Some(found) = found_of(a, b) else {
+        return Listing {
             bytes: bytes(1, a, b, c, d, e),
-            mnemonic: [b'-', b' ', b' ', b' ', b' '],
+            mnemonic: *b"-    ",
             operand: [b' '; 17],
-        },
-        Found::At {
-            place,
-            size: n,
-            cost: k,
-        } => {
-            let size = (k / 256) as u16;
-            let text = bytes(size, a, b, c, d, e);
-            let next = wrapping_add(pc, size);
-            if n == 1 {
-                listed(place, text, b, c, d, next)
-            } else {
-                listed(place, text, c, d, e, next)
-            }
-        }
+        };
+    };
+    let length = (found.cost / 256) as u16;
+    let text = bytes(length, a, b, c, d, e);
+    let next = wrapping_add(pc, length);
+    if found.size == 1 {
+        listed(found.place, text, b, c, d, next)
+    } else {
+        listed(found.place, text, c, d, e, next)
     }
 }

@@ -2,28 +2,12 @@
 // lowest SP after it, beside the cost that its mark claims.
 ghost use Rattle.std.specs.Prelude.{◌≡◌, ◌++◌, ◌+◌, ◌≤◌, ◌<◌, length};
 ghost use Rattle.lists.specs.Splice.{spliced};
-ghost use Rattle.registers.specs.Word.{smaller_of};
-ghost use Rattle.text.specs.Line.{written};
-ghost use Rattle.text.specs.Summary.{greater_of, visited_of, visits_text, summary_line};
+ghost use Rattle.text.specs.Summary.{visited_of, visits_text, summary_line};
 
-use crate::columns::{with_listing, with_word};
-use crate::line::{Line, empty, put, with_field, with_text};
+use crate::line::Line;
 use crate::listing::Listing;
+use crate::number::hex4;
 use registers::Cycles;
-use registers::word::smaller;
-
-// As `smaller`, of 32 bits.
-fn lesser(a: u32, b: u32) -> u32
-    ensures { result ≡ smaller_of a b }
-{
-    if a < b { a } else { b }
-}
-
-fn greater(a: u32, b: u32) -> u32
-    ensures { result ≡ greater_of a b }
-{
-    if b < a { a } else { b }
-}
 
 // How often, the least and the most cycles until the routine's own return, and the lowest SP after it.
 #[derive(Clone, Copy)]
@@ -58,43 +42,46 @@ impl Visits {
         }
         Visits {
             times: self.times + 1,
-            least: lesser(self.least, go.0),
-            most: greater(self.most, go.0),
-            lowest: smaller(self.lowest, sp),
+            least: self.least.min(go.0),
+            most: self.most.max(go.0),
+            lowest: self.lowest.min(sp),
         }
     }
 }
 
-// Where it was never executed there is nothing more to say.
-#[tactic(auto, unfolding(crate::specs::Summary::visits_text))]
-fn with_visits(l: Line, v: Visits) -> Line
-    requires { l.len + 62 ≤ 256 }
-    ensures { (written result ≡ written l ++ visits_text v) × (result.len ≤ l.len + 62) }
-{
-    let a = with_field(l, b" times=", v.times);
-    if v.times == 0 {
-        return a;
+impl Line {
+    // Where it was never executed there is nothing more to say.
+    #[tactic(auto, unfolding(crate::specs::Summary::visits_text))]
+    fn with_visits(self, v: Visits) -> Line
+        requires { length self + 62 ≤ 256 }
+        ensures { (result ≡ self ++ visits_text v) × (length result ≤ length self + 62) }
+    {
+        let line = self.with_field(b" times=", v.times);
+        if v.times == 0 {
+            return line;
+        }
+        line.with_field(b" least=", v.least)
+            .with_field(b" most=", v.most)
+            .with_text(b" lowest=")
+            .with_text(&hex4(v.lowest))
     }
-    let b = with_field(a, b" least=", v.least);
-    let c = with_field(b, b" most=", v.most);
-    with_word(c, b" lowest=", v.lowest)
 }
 
 #[tactic(auto, unfolding(crate::specs::Summary::summary_line))]
 fn line(address: u16, t: Listing, v: Visits, cost: Cycles) -> Line
-    ensures { (written result ≡ summary_line address t v cost.0) × (result.len ≤ 256) }
+    ensures { result ≡ summary_line address t v cost.0 }
 {
-    let a = with_listing(empty(), address, t);
-    let b = with_visits(a, v);
-    let c = with_field(b, b" cost=", cost.0);
-    with_text(c, b"\n")
+    Line::empty()
+        .with_listing(address, t)
+        .with_visits(v)
+        .with_field(b" cost=", cost.0)
+        .with_text(b"\n")
 }
 
 // How many bytes the line has; it stands at the beginning of the output.
-pub fn put_summary(address: u16, t: Listing, v: Visits, cost: Cycles, out: &mut [u8]) -> usize
-    requires { length out.old ≡ 256 }
+pub fn put_summary(address: u16, t: Listing, v: Visits, cost: Cycles, out: &mut [u8; 256]) -> usize
     ensures { (out.new ≡ spliced out.old 0 (summary_line address t v cost.0))
         × (result ≡ length (summary_line address t v cost.0)) × (result ≤ 256) }
 {
-    put(line(address, t, v, cost), out)
+    line(address, t, v, cost).put(out)
 }

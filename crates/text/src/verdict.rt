@@ -3,44 +3,37 @@ ghost use Rattle.std.specs.Prelude.{◌≡◌, ◌≤◌, length};
 ghost use Rattle.lists.specs.Splice.{spliced};
 ghost use Rattle.text.specs.Verdict.{accept_line, refuse_line, line_of};
 
-use crate::number::{put_decimal, put_hex, put_text};
-use answers::{Refusal, Verdict};
-use registers::{Cycles, StackBytes};
+use crate::line::Line;
+use crate::number::{hex4, put_text};
+use answers::{Acceptance, Refusal, Verdict};
 
-fn put_accept(out: &mut [u8], entry: u16, cost: Cycles, stack: StackBytes) -> usize
-    requires { length out.old ≡ 64 }
-    ensures { (out.new ≡ spliced out.old 0 (accept_line entry cost.0 stack.0))
-        × (result ≡ length (accept_line entry cost.0 stack.0)) }
+fn accepted(a: Acceptance) -> Line
+    ensures { result ≡ accept_line a.entry a.cost.0 a.stack.0 }
 {
-    let a = put_text(out, 0, b"ACCEPT ");
-    let b = put_hex(out, a, entry);
-    let c = put_text(out, b, b" ");
-    let d = put_decimal(out, c, cost.0);
-    let e = put_text(out, d, b" ");
-    let f = put_decimal(out, e, stack.0 as u32);
-    put_text(out, f, b"\n")
+    Line::empty()
+        .with_text(b"ACCEPT ")
+        .with_text(&hex4(a.entry))
+        .with_field(b" ", a.cost.0)
+        .with_field(b" ", u32::from(a.stack.0))
+        .with_text(b"\n")
 }
 
-fn put_refuse(out: &mut [u8], x: Refusal) -> usize
-    requires { length out.old ≡ 64 }
-    ensures { (out.new ≡ spliced out.old 0 (refuse_line x.number x.place))
-        × (result ≡ length (refuse_line x.number x.place)) }
+fn refused(x: Refusal) -> Line
+    ensures { result ≡ refuse_line x.number x.place }
 {
-    let a = put_text(out, 0, b"REFUSE ");
-    let b = put_decimal(out, a, x.number as u32);
-    let c = put_text(out, b, b" ");
-    let d = put_decimal(out, c, x.place);
-    put_text(out, d, b"\n")
+    Line::empty()
+        .with_field(b"REFUSE ", u32::from(x.number))
+        .with_field(b" ", x.place)
+        .with_text(b"\n")
 }
 
 // How many bytes the line has; it stands at the beginning of the output.
-pub fn put_verdict(v: Verdict, out: &mut [u8]) -> usize
-    requires { length out.old ≡ 64 }
-    ensures { (out.new ≡ spliced out.old 0 (line_of v))
-        × (result ≡ length (line_of v)) × (result ≤ 64) }
+pub fn put_verdict(v: Verdict, out: &mut [u8; 64]) -> usize
+    ensures { (out.new ≡ spliced out.old 0 (line_of v)) × (result ≡ length (line_of v)) × (result ≤ 64) }
 {
-    match v {
-        Verdict::Accept(entry, cost, stack) => put_accept(out, entry, cost, stack),
-        Verdict::Refuse(x) => put_refuse(out, x),
-    }
+    let line = match v {
+        Ok(a) => accepted(a),
+        Err(x) => refused(x),
+    };
+    put_text(out, 0, line.as_bytes())
 }
