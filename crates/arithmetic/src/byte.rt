@@ -8,7 +8,6 @@ ghost use Rattle.arithmetic.specs.Byte.{add8_of, sub8_of, logic8_of, tst_of, shi
 ghost use Rattle.arithmetic.specs.Byte.{bset_of, bclr_of};
 
 use crate::codes::{Coded, overflow, with_h, with_low_bits, with_nzv, with_nzvc};
-use lists::bit::one;
 use opcodes::instruction::{Binary, Unary};
 
 // The byte r with N and Z of it, V as bit 7 of what `overflow` answered, and C as given.
@@ -25,7 +24,7 @@ fn coded_by_overflow(r: u8, o: u16, c: bool, f: u8) -> Coded<u8>
 pub fn add8(x: u8, m: u8, carry: bool, f: u8) -> Coded<u8>
     ensures { result ≡ packed (add8_of x m carry (flags_of f)) }
 {
-    let k = one(carry);
+    let k = u8::from(carry);
     let half = x % 16 + m % 16 + k;
     let sum = (x as u16) + (m as u16) + (k as u16);
     let r = (sum % 256) as u8;
@@ -48,7 +47,7 @@ pub fn sub8(x: u8, m: u8, borrow: bool, f: u8) -> Coded<u8>
     ensures { result ≡ packed (sub8_of x m borrow (flags_of f)) }
 {
     let from = x as u16;
-    let less = (m as u16) + (one(borrow) as u16);
+    let less = (m as u16) + u16::from(borrow);
     let r = ((from + 256 - less) % 256) as u8;
     coded_by_overflow(r, overflow(m as u16, r as u16, from), from < less, f)
 }
@@ -83,15 +82,14 @@ pub fn unary(u: Unary, m: u8, f: u8) -> Coded<u8>
     let low = m % 2 == 1;
     let high = m / 128 % 2 == 1;
     let c = f % 2 == 1;
-    let k = one(c);
     match u {
         Unary::Neg => sub8(0, m, false, f),
         Unary::Com => coded(255 - m, false, true, f),
         Unary::Lsr => shifted(m / 2, low, f),
-        Unary::Ror => shifted(m / 2 + 128 * k, low, f),
-        Unary::Asr => shifted(m / 2 + 128 * one(high), low, f),
+        Unary::Ror => shifted(m / 2 + 128 * u8::from(c), low, f),
+        Unary::Asr => shifted(m / 2 + 128 * u8::from(high), low, f),
         Unary::Asl => shifted((2 * w % 256) as u8, high, f),
-        Unary::Rol => shifted(((2 * w + (k as u16)) % 256) as u8, high, f),
+        Unary::Rol => shifted(((2 * w + u16::from(c)) % 256) as u8, high, f),
         Unary::Dec => coded(((w + 255) % 256) as u8, m == 0x80, c, f),
         Unary::Inc => coded(((w + 1) % 256) as u8, m == 0x7f, c, f),
         Unary::Clr => coded(0, false, false, f),

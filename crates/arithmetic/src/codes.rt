@@ -4,8 +4,6 @@ ghost use Rattle.registers.specs.Flags.{bit, low, flags_of, byte_of};
 ghost use Rattle.arithmetic.specs.Codes.{with_nzvc, with_nzv, with_hnzvc, with_z, with_v, with_c, with_zvc};
 ghost use Rattle.arithmetic.specs.Codes.{overflow_sum};
 
-use lists::bit::one;
-
 // A byte or a word that an operation made, with the condition codes.
 #[derive(Clone, Copy)]
 pub struct Coded<T> {
@@ -18,13 +16,13 @@ pub struct Coded<T> {
 pub fn with_low_bits(f: u8, n: u16, z: bool, v: u16, c: bool) -> u8
     ensures { result ≡ byte_of (with_nzvc (flags_of f) (low n) z (low v) c) }
 {
-    f / 16 * 16 + 8 * ((n % 2) as u8) + 4 * one(z) + 2 * ((v % 2) as u8) + one(c)
+    f / 16 * 16 + 8 * ((n % 2) as u8) + 4 * u8::from(z) + 2 * ((v % 2) as u8) + u8::from(c)
 }
 
 pub fn with_nzvc(f: u8, n: bool, z: bool, v: bool, c: bool) -> u8
     ensures { result ≡ byte_of (with_nzvc (flags_of f) n z v c) }
 {
-    with_low_bits(f, one(n) as u16, z, one(v) as u16, c)
+    with_low_bits(f, u16::from(n), z, u16::from(v), c)
 }
 
 pub fn with_nzv(f: u8, n: bool, z: bool, v: bool) -> u8
@@ -37,7 +35,7 @@ pub fn with_nzv(f: u8, n: bool, z: bool, v: bool) -> u8
 pub fn with_h(f: u8, h: bool) -> u8
     ensures { result ≡ (let g = flags_of f in byte_of (with_hnzvc g h g.n g.z g.v g.c)) }
 {
-    f / 64 * 64 + 32 * one(h) + f % 32
+    f / 64 * 64 + 32 * u8::from(h) + f % 32
 }
 
 pub fn with_z(f: u8, z: bool) -> u8

@@ -6,7 +6,6 @@ ghost use Rattle.arithmetic.specs.Decimal.{daa_of};
 
 use crate::byte::coded;
 use crate::codes::Coded;
-use lists::bit::one;
 
 #[tactic(auto, unfolding(crate::specs::Decimal::daa_of), using(crate::proofs::Bits::when_one))]
 pub fn daa(a: u8, f: u8) -> Coded<u8>
@@ -14,7 +13,7 @@ pub fn daa(a: u8, f: u8) -> Coded<u8>
 {
     let low = (f / 32 % 2 == 1) | (9 < a % 16);
     let high = (f % 2 == 1) | (0x99 < a);
-    let sum = (a as u16) + 0x06 * (one(low) as u16) + 0x60 * (one(high) as u16);
+    let sum = (a as u16) + 0x06 * u16::from(low) + 0x60 * u16::from(high);
     let r = (sum % 256) as u8;
     coded(r, false, high, f)
 }

@@ -36,11 +36,10 @@ fn to_xd(r: Registers, w: Divided) -> Registers
 pub fn with_i(f: u8, set: bool) -> u8
     ensures { result ≡ with_i f set }
 {
-    Flags {
+    u8::from(Flags {
         i: set,
-        ..Flags::from_byte(f)
-    }
-    .to_byte()
+        ..Flags::from(f)
+    })
 }
 
 // TAP, RTI: new flags where the old ones are f. X is never raised.
@@ -48,12 +47,11 @@ pub fn with_i(f: u8, set: bool) -> u8
 pub fn replaced(new: u8, f: u8) -> u8
     ensures { result ≡ replaced new f }
 {
-    let g = Flags::from_byte(new);
-    Flags {
-        x: g.x & Flags::from_byte(f).x,
+    let g = Flags::from(new);
+    u8::from(Flags {
+        x: g.x & Flags::from(f).x,
         ..g
-    }
-    .to_byte()
+    })
 }
 
 #[tactic(auto, unfolding(crate::specs::Inherent::inherent_of))]

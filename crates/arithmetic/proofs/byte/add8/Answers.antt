@@ -23,7 +23,7 @@ returns c = let a = c.args in
       c.coded_by_overflow.ensures,
       c.overflow.ensures 7,
       c.with_h-g.ensures,
-      c.one-k.ensures.0,
+      c.from-k.ensures,
       after_h (flags_of a.f) (ltb 15 half) (bit 7 r) (eqb r 0) (overflow_sum 7 a.x a.m r) (ltb 255 sum),
       carry_test 3 a.x a.m r half a.carry refl (omega arith),
       carry_test 7 a.x a.m r sum a.carry (omega arith) (omega arith),

@@ -18,7 +18,7 @@ returns c = let a = c.args in
     simp (
       c.coded_by_overflow.ensures,
       c.overflow.ensures 7,
-      c.one.ensures.0,
+      c.from.ensures,
       overflow_of_difference 7 a.x a.m r,
       borrow_test 7 a.x a.m r less a.borrow (omega arith) (omega arith) refl refl,
     )
