@@ -1,6 +1,7 @@
 -- Document 01's rule of the table: an entry is 0, or has a length of 1 to 5 and 2 to 41 cycles. One test over the 1,024
 -- places.
 -- Assumes nothing.
+use Rattle.std.proofs.lemmas.Bool.{cases_lt}
 use mathlib.Core.Path.{◌≡◌, refl}
 use mathlib.Core.Bool.{Bool, true, ◌&&◌}
 use mathlib.Core.Logic.{◌⊎◌, inl, inr, ⊎_elim}
@@ -9,7 +10,6 @@ use native.Mathlib.Omega.{arith}
 use lib.Dec.{T, leb, leb→le}
 use lib.ListN.{get_or-eq_default}
 use Rattle.opcodes.specs.Tables.{costs, cost_at}
-use Rattle.opcodes.proofs.Order.{le_or_lt}
 use Rattle.opcodes.proofs.Every.{both_left, both_right, every, at}
 
 abbrev pub Ruled : ℕ → Type 0
@@ -48,7 +48,7 @@ unfolding costs cost_at
 past n p = get_or-eq_default costs 0 p
 
 pub ruled_at_all : (n : ℕ) → Ruled (cost_at n)
-ruled_at_all n = ⊎_elim (λ p. inl (past n p)) (λ q. ruled n q) (le_or_lt 1024 n)
+ruled_at_all n = ⊎_elim (λ q. ruled n q) (λ p. inl (past n p)) (cases_lt n 1024)
 
 narrow : (e : ℕ) → Ruled e → e < 65536
 narrow e r = ⊎_elim (λ z. omega (arith, z)) (λ w. omega (arith, w.1)) r
@@ -59,4 +59,4 @@ entry_word n = narrow (cost_at n) (ruled_at_all n)
 
 -- where an entry is not 0 there is a place
 pub below : (n : ℕ) → (cost_at n ≡ 0 → ⊥) → n < 1024
-below n h = ⊎_elim (λ p. absurd (h (past n p))) (λ q. q) (le_or_lt 1024 n)
+below n h = ⊎_elim (λ q. q) (λ p. absurd (h (past n p))) (cases_lt n 1024)

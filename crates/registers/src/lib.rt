@@ -11,7 +11,7 @@ pub mod word; // sums and differences that wrap at 65,536; the smaller of two wo
 
 // The words stand first, so that an answer that holds registers keeps each at one place; among them the order was
 // chosen by measurement.
-#[derive(Clone, Copy)]
+#[derive(Clone, Copy, PartialEq, Eq)]
 pub struct Registers {
     pub x: u16,
     pub y: u16,
@@ -34,7 +34,7 @@ pub struct Data {
 }
 
 // Cycles and stack bytes are counted apart: no sum or comparison crosses them.
-#[derive(Clone, Copy)]
+#[derive(Clone, Copy, PartialEq, Eq)]
 pub struct Cycles(pub u32);
 
 #[derive(Clone, Copy)]
@@ -42,21 +42,19 @@ pub struct StackBytes(pub u16);
 
 impl Registers {
     // Document 01's reset value.
-    pub const RESET: Registers = Registers {
-        x: 0,
-        y: 0,
-        sp: 0,
-        pc: 0,
-        lowest: 0,
-        a: 0,
-        b: 0,
-        flags: 0xd0,
-    };
-
     pub fn reset() -> Registers
         ensures { result ≡ reset_of }
     {
-        Registers::RESET
+        Registers {
+            x: 0,
+            y: 0,
+            sp: 0,
+            pc: 0,
+            lowest: 0,
+            a: 0,
+            b: 0,
+            flags: 0xd0,
+        }
     }
 
     // Document 01's named start: the data as given, PC at the entry, and SP below the two bytes of home, the last of
