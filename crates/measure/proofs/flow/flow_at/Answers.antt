@@ -16,7 +16,21 @@ found : (m : List ℕ) (pc : ℕ) → pc < 65536 → {b a b' : ℕ} {f : Option 
 found m pc low b a b' f = simp (plus_zero pc low, ← a, ← b, ← b', ← f)
 
 pub returns-in_default : goal.returns-in_default
-returns-in_default c = ?
+returns-in_default c =
+    sym (nowhere_flow _ _ (found _ c.args.pc (omega arith) c.byte_at.ensures c.wrapping_add.ensures c.byte_at-2.ensures
+    c.in_default.ensures.found))
 
 pub returns : goal.returns
-returns c = ?
+returns c =
+    let h = found c.args.mem.now c.args.pc (omega arith) c.byte_at.ensures c.wrapping_add.ensures c.byte_at-2.ensures
+    c.in-Some.ensures.found in
+    simp (
+      there_flow _ _ c.in-Some.f h,
+      ← c.wrapping_add-2.ensures,
+      ← c.wrapping_add-3.ensures,
+      ← c.wrapping_add-4.ensures,
+      ← c.byte_at-u.ensures,
+      ← c.byte_at-v.ensures,
+      ← c.byte_at-w.ensures,
+    )
+    c.flow_found.ensures
