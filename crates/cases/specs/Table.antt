@@ -1,7 +1,7 @@
 -- Document 01's twelve proved cases, and those of document 02's lowest SP, as tables. `proofs/Table.antt` has the
 -- theorems that all of them hold.
 -- Assumes nothing.
-use Rattle.std.specs.Prelude.{◌≡◌, ℕ, ◌+◌, ◌-◌, List, [], ◌∷◌, ◌++◌, length, replicate}
+use Rattle.std.specs.Prelude.{◌≡◌, ℕ, ◌+◌, ◌-◌, List, [], ◌∷◌, ◌++◌, length, replicate, Ok, Err}
 use Rattle.registers.specs.Registers.{start_of}
 use Rattle.registers.specs.declared.Registers.{Registers}
 use Rattle.stepper.specs.Answer.{Answer, done, RunAnswer, home, spent}
@@ -9,8 +9,7 @@ use Rattle.stepper.specs.declared.environment.Environment.{Environment}
 use Rattle.stepper.specs.Step.{step_of}
 use Rattle.stepper.specs.Run.{run_of}
 use Rattle.ticket.specs.Read.{refusal}
-use Rattle.answers.specs.declared.Verdict.{Verdict}
-use Rattle.answers.specs.declared.Verdict.TheVariants.{Accept, Refuse}
+use Rattle.answers.specs.Verdict.{Verdict}
 use Rattle.rules.specs.Checks.{verdict_of}
 
 -- zeros, with some bytes from $8000 on
@@ -24,6 +23,10 @@ start f a b x = start_of (record { x = x; y = 0; a = a; b = b; flags = f }) 0x80
 -- A, B, X, SP, PC and the flags, with the lowest SP; Y is 0
 abbrev pub regs : (a b x sp pc flags lowest : ℕ) → Registers
 regs a b x sp pc f low = record { x = x; y = 0; sp = sp; pc = pc; lowest = low; a = a; b = b; flags = f }
+
+-- the entry, the certified cycles and the stack bytes
+abbrev pub accept : (entry cost stack : ℕ) → Verdict
+accept e k n = Ok (record { entry = e; cost = record { 0 = k }; stack = record { 0 = n } })
 
 -- document 01's home
 abbrev pub home_zero : Environment
@@ -67,19 +70,19 @@ ticket_p stack limit cost =
 unfoldable pub cases : List Case
 cases =
     -- 1: P is accepted
-    verdict (ticket_p 5 26 23) routine_p (Accept 0x8000 (record { 0 = 26 }) (record { 0 = 5 })) ∷
+    verdict (ticket_p 5 26 23) routine_p (accept 0x8000 26 5) ∷
     -- 2: P runs home in 26 cycles; lowest SP $01EF, last $01F4
     run routine_p (start 0xd0 7 0 0) 26 (home (regs 7 0 0 0x1f4 0 0xd0 0x1ef) (record { 0 = 26 })) ∷
     -- 3: budget 25: spent at 21, PC $8005
     run routine_p (start 0xd0 7 0 0) 25 (spent (regs 7 0 0 0x1f2 0x8005 0xd0 0x1ef) (record { 0 = 21 })) ∷
     -- 4: limit 25: 19
-    verdict (ticket_p 5 25 23) routine_p (Refuse (refusal 19 0x8000)) ∷
+    verdict (ticket_p 5 25 23) routine_p (Err (refusal 19 0x8000)) ∷
     -- 5: stack of 4: 20
-    verdict (ticket_p 4 26 23) routine_p (Refuse (refusal 20 0x8000)) ∷
+    verdict (ticket_p 4 26 23) routine_p (Err (refusal 20 0x8000)) ∷
     -- 6: cost 22 at $8001: 16 there
-    verdict (ticket_p 5 26 22) routine_p (Refuse (refusal 16 0x8001)) ∷
+    verdict (ticket_p 5 26 22) routine_p (Err (refusal 16 0x8001)) ∷
     -- 7: empty ticket: 2 at 0
-    verdict [] routine_p (Refuse (refusal 2 0)) ∷
+    verdict [] routine_p (Err (refusal 2 0)) ∷
     -- 8: ABA, A $7F, B $01: A $80; H N V set, Z C, which were set, clear; 2 cycles
     step (0x1b ∷ []) (start 0xd5 0x7f 0x01 0) (done (regs 0x80 0x01 0 0x1f2 0x8001 0xfa 0x1f2) (record { 0 = 2 })) ∷
     -- 9: ABX, X $FFFF, B 2: X $0001

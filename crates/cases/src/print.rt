@@ -1,14 +1,13 @@
 // Answers as text, one to a line.
 use answers::Refusal;
 use output::{decimal, registers, text, word};
-use registers::{Cycles, Registers};
-use stepper::answer::{Ran, Stepped};
+use stepper::answer::{Ran, Reached, Stepped};
 
 // The registers and the cycles.
-fn reached(rt: &impl Print, r: Registers, k: Cycles) {
-    registers(rt, r);
+fn reached(rt: &impl Print, r: Reached) {
+    registers(rt, r.registers);
     text(rt, b" cycles ");
-    decimal(rt, k.0 as u64);
+    decimal(rt, r.cycles.0 as u64);
     text(rt, b"\n");
 }
 
@@ -21,8 +20,8 @@ fn refusal(rt: &impl Print, x: Refusal) {
 
 pub fn stepped(rt: &impl Print, s: Stepped) {
     match s {
-        Stepped::Done(r, k) => reached(rt, r, k),
-        Stepped::Refused(x) => {
+        Ok(r) => reached(rt, r),
+        Err(x) => {
             refusal(rt, x);
             text(rt, b"\n");
         }
@@ -31,18 +30,18 @@ pub fn stepped(rt: &impl Print, s: Stepped) {
 
 pub fn ran(rt: &impl Print, a: Ran) {
     match a {
-        Ran::Home(r, k) => {
+        Ran::Home(r) => {
             text(rt, b"home: ");
-            reached(rt, r, k);
+            reached(rt, r);
         }
-        Ran::Spent(r, k) => {
+        Ran::Spent(r) => {
             text(rt, b"spent: ");
-            reached(rt, r, k);
+            reached(rt, r);
         }
-        Ran::Refused(r, k, x) => {
+        Ran::Refused(r, x) => {
             refusal(rt, x);
             text(rt, b": ");
-            reached(rt, r, k);
+            reached(rt, r);
         }
     }
 }

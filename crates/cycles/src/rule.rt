@@ -2,9 +2,7 @@
 use checks::image::shape_at;
 use checks::shape::{Ordinary, Shape, Successors, Writes};
 use commands::header::Window;
-use opcodes::table::{actions, costs, modes};
 use output::{decimal, text};
-use registers::word::wrapping_add;
 
 // Any operand's byte, but that no jump by it goes to the next instruction.
 pub const OPERAND: u8 = 0x12;
@@ -29,25 +27,16 @@ fn written(w: Writes) -> u16 {
 fn way(rt: &impl Print, next: Successors, after: u16) {
     match next {
         Successors::Two(_, _) => text(rt, b"branches"),
-        Successors::One(a) => {
-            if a == after {
-                text(rt, b"goes on");
-            } else {
-                text(rt, b"jumps");
-            }
-        }
+        Successors::One(a) if a == after => text(rt, b"goes on"),
+        Successors::One(_) => text(rt, b"jumps"),
     }
 }
 
 fn ordinary(rt: &impl Print, o: Ordinary, after: u16) {
-    let next = o.next;
-    let pushed = o.pushed;
-    let pulled = o.pulled;
-    let writes = o.writes;
-    way(rt, next, after);
-    bytes(rt, b", pushes ", pushed.0);
-    bytes(rt, b", pulls ", pulled.0);
-    bytes(rt, b", writes ", written(writes));
+    way(rt, o.next, after);
+    bytes(rt, b", pushes ", o.pushed.0);
+    bytes(rt, b", pulls ", o.pulled.0);
+    bytes(rt, b", writes ", written(o.writes));
 }
 
 fn wording(rt: &impl Print, s: Shape, after: u16) {
@@ -62,15 +51,11 @@ fn wording(rt: &impl Print, s: Shape, after: u16) {
 
 // Of the instruction that begins with these bytes.
 pub fn rule(rt: &impl Print, first: u8, second: u8) {
-    let tc = costs();
-    let ta = actions();
-    let tm = modes();
     let image = [first, second, OPERAND, OPERAND, OPERAND];
     let code = Window {
         start: 0x8000,
         length: 5,
     };
-    let shaped = shape_at(code, &image, 0x8000, &tc, &ta, &tm);
-    let shape = shaped.shape;
-    wording(rt, shape, wrapping_add(0x8000, shaped.size));
+    let shaped = shape_at(code, &image, 0x8000);
+    wording(rt, shaped.shape, 0x8000u16.wrapping_add(shaped.size));
 }

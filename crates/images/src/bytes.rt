@@ -1,21 +1,5 @@
-// Bytes put into an output; a file's and an image's from a text.
-use std::num::wrapping_add_usize;
-
-pub fn put(out: &mut [u8], at: usize, b: u8) -> usize {
-    if at < out.len() {
-        out[at] = b;
-        return at + 1;
-    }
-    at
-}
-
-pub fn put_all(out: &mut [u8], at: usize, s: &[u8]) -> usize {
-    let mut next = at;
-    for i in 0..s.len() {
-        next = put(out, next, s[i]);
-    }
-    next
-}
+// A file's and an image's bytes from a text.
+ghost use Rattle.std.specs.Prelude.{◌<◌};
 
 // What a character of a file stands for: a sign for each byte that a line of the text cannot hold or does not show.
 fn meant(b: u8) -> u8 {
@@ -30,21 +14,19 @@ fn meant(b: u8) -> u8 {
     }
 }
 
-// Puts a file at the beginning of the output, and answers its length.
-pub fn put_file(s: &[u8], out: &mut [u8]) -> usize {
-    let mut next = 0;
-    for i in 0..s.len() {
-        next = put(out, next, meant(s[i]));
+// A file, put at the beginning of a space.
+pub fn file_in<'a>(s: &[u8], space: &'a mut [u8]) -> &'a [u8] {
+    for (to, from) in space.iter_mut().zip(s) {
+        *to = meant(*from);
     }
-    next
-}
-
-pub fn byte_at(s: &[u8], i: usize) -> u8 {
-    if i < s.len() { s[i] } else { b'0' }
+    let n = s.len().min(space.len());
+    &space[..n]
 }
 
 // A digit's value. Images have digits in lower case alone.
-fn digit(b: u8) -> u8 {
+fn digit(b: u8) -> u8
+    ensures { result < 16 }
+{
     if b < b'a' {
         b % 16
     } else {
@@ -52,30 +34,23 @@ fn digit(b: u8) -> u8 {
     }
 }
 
-fn put_pair(s: &[u8], i: usize, out: &mut [u8], at: usize) -> usize {
-    if i % 2 == 1 {
-        return at;
+// A digit that has no other after it is a byte's high one.
+fn byte(digits: &[u8]) -> u8 {
+    match digits {
+        [high, low] => digit(*high) * 16 + digit(*low),
+        [high] => digit(*high) * 16,
+        _ => 0,
     }
-    let high = digit(byte_at(s, i)) % 16;
-    let low = digit(byte_at(s, wrapping_add_usize(i, 1))) % 16;
-    put(out, at, high * 16 + low)
 }
 
-fn put_pairs(s: &[u8], out: &mut [u8]) -> usize {
-    let mut next = 0;
-    for i in 0..s.len() {
-        next = put_pair(s, i, out, next);
+// Puts an image at the beginning of the output: two hexadecimal digits are a byte, and N is 4,095 NOPs and an RTS.
+pub fn put_image(s: &[u8], out: &mut [u8; 4200]) {
+    if s.starts_with(b"N") {
+        out[..4095].fill(1);
+        out[4095] = 0x39;
+        return;
     }
-    next
-}
-
-// Puts an image at the beginning of the output, and answers its length: two hexadecimal digits are a byte, and N is
-// 4,095 NOPs and an RTS.
-pub fn put_image(s: &[u8], out: &mut [u8]) -> usize {
-    if byte_at(s, 0) == b'N' {
-        let mut nops = [1u8; 4096];
-        nops[4095] = 0x39;
-        return put_all(out, 0, &nops);
+    for (to, digits) in out.iter_mut().zip(s.chunks(2)) {
+        *to = byte(digits);
     }
-    put_pairs(s, out)
 }

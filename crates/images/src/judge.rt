@@ -1,6 +1,7 @@
 // A file judged with three buffers: of the code window's length, of one byte less and of one byte more.
-use crate::bytes::{byte_at, put_file, put_image};
-use crate::fields::{field_end, next_field};
+ghost use Rattle.std.specs.Prelude.{◌≤◌};
+
+use crate::bytes::{file_in, put_image};
 use crate::tickets::{room, ticket};
 use answers::Verdict;
 use check::same;
@@ -8,47 +9,64 @@ use output::{decimal, text};
 use text::verdict::put_verdict;
 use verdict::verdict_of_records;
 
+// A line of the text: the answer; the ticket's letter; the image in the buffer afterwards, empty where it is not
+// written; the file; why.
+#[derive(Clone, Copy)]
+struct Case<'a> {
+    answer: &'a [u8],
+    ticket: u8,
+    image: &'a [u8],
+    file: &'a [u8],
+    why: &'a [u8],
+}
+
+// Semicolons part the fields; the last takes the rest of the line. The file is put into a space.
+fn case_in<'a>(s: &'a [u8], space: &'a mut [u8]) -> Case<'a> {
+    let mut fields = s.splitn(5, |b| *b == b';');
+    let answer = fields.next().unwrap_or(b"");
+    let letter = fields.next().unwrap_or(b"");
+    let image = fields.next().unwrap_or(b"");
+    let file = fields.next().unwrap_or(b"");
+    let why = fields.next().unwrap_or(b"");
+    Case {
+        answer,
+        ticket: letter.first().copied().unwrap_or(b'0'),
+        image,
+        file: file_in(file, space),
+        why,
+    }
+}
+
 // The verdict, with the first bytes lent as the buffer.
-fn verdict_in(letter: u8, file: &[u8], bytes: &mut [u8], length: usize) -> Verdict {
+fn verdict_in(c: Case<'_>, bytes: &mut [u8; 4200], length: usize) -> Verdict
+    requires { length ≤ 4200 }
+{
     let mut space = [0u8; 128];
-    let n = ticket(letter, &mut space);
-    if 128 < n {
-        return verdict_of_records(&space, file, bytes);
-    }
-    if bytes.len() < length {
-        return verdict_of_records(&space[0..n], file, bytes);
-    }
-    verdict_of_records(&space[0..n], file, &mut bytes[0..length])
+    verdict_of_records(ticket(c.ticket, &mut space), c.file, &mut bytes[..length])
 }
 
 // Whether the answer is the expected one; another is printed.
 fn answered(rt: &impl Print, v: Verdict, expected: &[u8]) -> bool {
     let mut line = [0u8; 64];
     let n = put_verdict(v, &mut line);
-    if n == 0 {
+    let Some(found) = line[..n].strip_suffix(b"\n") else {
         return false;
-    }
-    let end = n - 1; // its line feed
-    if same(&line[0..end], expected) {
+    };
+    if same(found, expected) {
         return true;
     }
     text(rt, b", BUT FOUND ");
-    text(rt, &line[0..end]);
+    text(rt, found);
     false
 }
 
 // Whether a buffer of a length is answered as expected and all its bytes come to those expected. What differs is
 // printed.
-fn judged(
-    rt: &impl Print,
-    letter: u8,
-    file: &[u8],
-    length: usize,
-    expected: &[u8],
-    after: &[u8],
-) -> bool {
+fn judged(rt: &impl Print, c: Case<'_>, length: usize, expected: &[u8], after: &[u8; 4200]) -> bool
+    requires { length ≤ 4200 }
+{
     let mut bytes = [0xaau8; 4200];
-    let right = answered(rt, verdict_in(letter, file, &mut bytes, length), expected);
+    let right = answered(rt, verdict_in(c, &mut bytes, length), expected);
     if same(&bytes, after) {
         return right;
     }
@@ -59,46 +77,30 @@ fn judged(
 
 // A file that is refused up to 9 leaves each buffer; a good one fills that of the right length, and with the others is
 // refused for it.
-fn judged_three(rt: &impl Print, letter: u8, file: &[u8], expected: &[u8], image: &[u8]) -> bool {
+fn judged_three(rt: &impl Print, c: Case<'_>) -> bool {
     let kept = [0xaau8; 4200];
-    let mut filled = [0xaau8; 4200];
-    let room = room(letter);
-    if put_image(image, &mut filled) == 0 {
-        let right = judged(rt, letter, file, room, expected, &kept);
-        let less = judged(rt, letter, file, room - 1, expected, &kept);
-        return right & less & judged(rt, letter, file, room + 1, expected, &kept);
-    }
-    let right = judged(rt, letter, file, room, expected, &filled);
-    let less = judged(rt, letter, file, room - 1, b"REFUSE 9 0", &kept);
-    right & less & judged(rt, letter, file, room + 1, b"REFUSE 9 0", &kept)
+    let mut filled = kept;
+    put_image(c.image, &mut filled);
+    let misfit = if c.image.is_empty() {
+        c.answer
+    } else {
+        b"REFUSE 9 0"
+    };
+    let room = room(c.ticket);
+    let right = judged(rt, c, room, c.answer, &filled);
+    let less = judged(rt, c, room - 1, misfit, &kept);
+    let more = judged(rt, c, room + 1, misfit, &kept);
+    right & less & more
 }
 
-// A line of the text: the answer; the ticket's letter; the image in the buffer afterwards, empty where it is not
-// written; the file; why. Whether all is as expected.
-pub fn case(rt: &impl Print, s: &[u8]) -> bool {
-    let answer_end = field_end(s, 0);
-    let letter = next_field(s, answer_end);
-    let letter_end = field_end(s, letter);
-    let image = next_field(s, letter_end);
-    let image_end = field_end(s, image);
-    let file = next_field(s, image_end);
-    let file_end = field_end(s, file);
-    let why = next_field(s, file_end);
-    text(rt, &s[why..]);
+// A line of the text. Whether all is as expected.
+pub fn judge(rt: &impl Print, s: &[u8]) -> bool {
+    let mut space = [0u8; 65536];
+    let c = case_in(s, &mut space);
+    text(rt, c.why);
     text(rt, b" -> ");
-    text(rt, &s[0..answer_end]);
-    let mut bytes = [0u8; 65536];
-    let n = put_file(&s[file..file_end], &mut bytes);
-    let mut right = false;
-    if n <= 65536 {
-        right = judged_three(
-            rt,
-            byte_at(s, letter),
-            &bytes[0..n],
-            &s[0..answer_end],
-            &s[image..image_end],
-        );
-    }
+    text(rt, c.answer);
+    let right = judged_three(rt, c);
     text(rt, b"\n");
     right
 }

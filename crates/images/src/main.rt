@@ -6,7 +6,6 @@ use output::{decimal, text};
 use std::fs;
 
 mod bytes; // a file's and an image's bytes from a text
-mod fields; // the fields of a line
 mod tickets; // the tickets that files are judged with
 mod judge; // a file judged with three buffers
 mod lines; // the lines of a text

@@ -6,7 +6,7 @@ use output::text;
 use text::listing::{Listing, list};
 use text::number::hex4;
 
-// The byte that leads to a map.
+// The byte that leads to a map; as in vectors, with which this program shares no library that lists the maps.
 fn prefix(page: u16) -> u8 {
     match page {
         1 => 0x18,

@@ -8,28 +8,30 @@ use output::text;
 use text::verdict::put_verdict;
 use verdict::{verdict, verdict_of_records};
 
+fn judge_records(ticket: &[u8], file: &[u8]) -> Verdict {
+    let mut image = [0u8; 65536];
+    let n = room(ticket, &image);
+    verdict_of_records(ticket, file, &mut image[..n])
+}
+
 fn print(rt: &impl Print, v: Verdict) {
     let mut line = [0u8; 64];
     let n = put_verdict(v, &mut line);
-    text(rt, &line[0..n]);
-}
-
-fn judge_records(rt: &impl Print, ticket: &[u8], file: &[u8]) {
-    let mut image = [0u8; 65536];
-    let n = room(ticket, &image);
-    print(rt, verdict_of_records(ticket, file, &mut image[..n]));
+    text(rt, &line[..n]);
 }
 
 fn main(rt: HostRuntime) {
     let mut first = [0u8; 65536];
     let mut ticket = [0u8; 65536];
-    let r = load_routine(&rt, &mut first, &mut ticket);
-    if !r.whole {
+    let Some(r) = load_routine(&rt, &mut first, &mut ticket) else {
         return;
-    }
-    if r.records {
-        judge_records(&rt, &ticket[..r.ticket], &first[..r.first]);
+    };
+    let first = &first[..r.first];
+    let ticket = &ticket[..r.ticket];
+    let v = if r.records {
+        judge_records(ticket, first)
     } else {
-        print(&rt, verdict(&ticket[..r.ticket], &first[..r.first]));
-    }
+        verdict(ticket, first)
+    };
+    print(&rt, v);
 }

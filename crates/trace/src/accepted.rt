@@ -1,9 +1,10 @@
 // A routine that is accepted: its instructions, and the line that ends the trace.
 use crate::options::Options;
-use crate::steps::{steps, summary};
+use crate::steps::{Walk, steps, summary};
+use answers::Acceptance;
 use explain::refused;
+use memory::Memory;
 use output::text;
-use registers::word::{wrapping_add, wrapping_sub};
 use registers::{Cycles, Registers, StackBytes};
 use stepper::answer::Ran;
 use stepper::environment::Environment;
@@ -11,105 +12,69 @@ use stepper::run;
 use text::last::{Totals, put_home, put_spent};
 use ticket::fields::Ticket;
 use ticket::read;
-use verdict::{Started, start_routine};
+use verdict::{Start, start_routine};
 
 // The stack bytes used: from the stack window's last address, two above the start's SP, down to the lowest SP that the
 // run answered.
 fn used(start: Registers, reached: Registers) -> StackBytes {
-    StackBytes(wrapping_sub(wrapping_add(start.sp, 2), reached.lowest))
-}
-
-fn home(rt: &impl Print, t: Totals) {
-    let mut line = [0u8; 256];
-    let n = put_home(t, &mut line);
-    text(rt, &line[0..n]);
-}
-
-fn spent(rt: &impl Print, t: Totals) {
-    let mut line = [0u8; 256];
-    let n = put_spent(t, &mut line);
-    text(rt, &line[0..n]);
-}
-
-fn walk(
-    rt: &impl Print,
-    t: Ticket,
-    r: Registers,
-    mem: [u8; 65536],
-    total: u32,
-    cost: Cycles,
-    summarised: bool,
-) {
-    if summarised {
-        summary(rt, t, r, mem, total, cost.0);
-    } else {
-        steps(rt, t, r, mem, total, cost.0);
-    }
+    StackBytes(start.sp.wrapping_add(2).wrapping_sub(reached.lowest))
 }
 
 // How far the budget goes is the run's own answer; the instructions up to there are then done one by one.
-fn trace(
-    rt: &impl Print,
-    t: Ticket,
-    r: Registers,
-    e: Environment,
-    mem: [u8; 65536],
-    o: Options,
-    cost: Cycles,
-    certified: StackBytes,
-) {
-    let mut copy = mem;
-    let budget = if o.limited { o.budget } else { cost.0 };
-    match run(r, &mut copy, e, budget) {
-        Ran::Home(q, k) => {
-            walk(rt, t, r, mem, k.0, cost, o.summary);
-            home(
-                rt,
-                Totals {
-                    cycles: k,
-                    allowed: cost,
-                    stack: used(r, q),
-                    certified,
-                    lowest: q.lowest,
-                    home: e.home,
-                },
-            );
-        }
-        Ran::Spent(q, k) => {
-            walk(rt, t, r, mem, k.0, cost, o.summary);
-            spent(
-                rt,
-                Totals {
-                    cycles: k,
-                    allowed: Cycles(budget),
-                    stack: used(r, q),
-                    certified,
-                    lowest: q.lowest,
-                    home: e.home,
-                },
-            );
-        }
-        Ran::Refused(_, _, _) => {}
+fn trace(rt: &impl Print, t: &Ticket, start: Start, mem: &Memory, o: Options, a: Acceptance) {
+    let r = start.registers;
+    let home = start.home;
+    let mut copy = *mem;
+    let budget = o.budget.unwrap_or(a.cost.0);
+    let ran = run(r, &mut copy, Environment { home }, budget);
+    let (Ran::Home(reached) | Ran::Spent(reached)) = ran else {
+        return;
+    };
+    let w = Walk {
+        ticket: t,
+        start: r,
+        memory: mem,
+        total: reached.cycles.0,
+        limit: a.cost.0,
+    };
+    if o.summary {
+        summary(rt, w);
+    } else {
+        steps(rt, w);
     }
+    let totals = Totals {
+        cycles: reached.cycles,
+        allowed: a.cost,
+        stack: used(r, reached.registers),
+        certified: a.stack,
+        lowest: reached.registers.lowest,
+        home,
+    };
+    let mut line = [0u8; 256];
+    let n = match ran {
+        Ran::Spent(_) => {
+            let allowed = Cycles(budget);
+            put_spent(Totals { allowed, ..totals }, &mut line)
+        }
+        Ran::Home(_) | Ran::Refused(_, _) => put_home(totals, &mut line),
+    };
+    text(rt, &line[..n]);
 }
 
+// Of a ticket and an image, in a memory that is loaded besides.
 pub fn accepted(
     rt: &impl Print,
     o: Options,
     ticket: &[u8],
     image: &[u8],
-    mem: [u8; 65536],
-    cost: Cycles,
-    stack: StackBytes,
+    mem: &mut Memory,
+    a: Acceptance,
 ) {
-    let mut m = mem;
-    let start = o.start;
-    match start_routine(ticket, image, start, &mut m) {
-        Started::Refused(x) => refused(rt, x, ticket, image),
-        Started::At(r, home) => {
-            let reading = read(ticket);
-            let t = reading.ticket;
-            trace(rt, t, r, Environment { home }, m, o, cost, stack);
-        }
+    let start = match start_routine(ticket, image, o.start, mem) {
+        Ok(start) => start,
+        Err(x) => return refused(rt, x, ticket, image),
+    };
+    if let Ok(t) = read(ticket) {
+        trace(rt, &t, start, mem, o, a);
     }
 }

@@ -3,39 +3,31 @@ use arguments::argument::{Argument, Setting, argument_in};
 use output::text;
 use std::env::{Env, FillError};
 
-fn bad_value(err: &impl Print, n: Setting) {
+fn needed(n: Setting) -> &'static [u8] {
     match n {
-        Setting::A => text(err, b"a must be a hexadecimal number from 0 to FF"),
-        Setting::B => text(err, b"b must be a hexadecimal number from 0 to FF"),
-        Setting::X => text(err, b"x must be a hexadecimal number from 0 to FFFF"),
-        Setting::Y => text(err, b"y must be a hexadecimal number from 0 to FFFF"),
-        Setting::Flags => text(err, b"flags must be a hexadecimal number from 0 to FF"),
-        Setting::Budget => text(err, b"budget must be a decimal number from 0 to 4294967295"),
+        Setting::A => b"a must be a hexadecimal number from 0 to FF",
+        Setting::B => b"b must be a hexadecimal number from 0 to FF",
+        Setting::X => b"x must be a hexadecimal number from 0 to FFFF",
+        Setting::Y => b"y must be a hexadecimal number from 0 to FFFF",
+        Setting::Flags => b"flags must be a hexadecimal number from 0 to FF",
+        Setting::Budget => b"budget must be a decimal number from 0 to 4294967295",
     }
 }
 
-fn why(err: &impl Print, a: Argument) {
+fn why(a: Argument) -> &'static [u8] {
     match a {
-        Argument::Empty => text(err, b"empty"),
-        Argument::BadValue(n) => bad_value(err, n),
-        Argument::NoFile => text(err, b"memory must name a file"),
-        Argument::Unknown => text(err, b"not known"),
-        Argument::Set(_, _) => {}
-        Argument::Memory => {}
-        Argument::Summary => {}
+        Argument::Empty => b"empty",
+        Argument::BadValue(n) => needed(n),
+        Argument::NoFile => b"memory must name a file",
+        Argument::Unknown => b"not known",
+        Argument::Set(_, _) | Argument::Memory | Argument::Summary => b"",
     }
-}
-
-// At most 32 bytes.
-fn beginning(err: &impl Print, s: &[u8]) {
-    let n = s.len().min(32);
-    text(err, &s[..n]);
 }
 
 // Of an argument that is longer than the buffer, which holds its first bytes.
-fn too_long(err: &impl Print, buf: &[u8]) {
+fn too_long(err: &impl Print, buf: &[u8; 4096]) {
     text(err, b"trace: argument '");
-    beginning(err, buf);
+    text(err, &buf[..32]);
     text(err, b"..': longer than 4,096 bytes\n");
 }
 
@@ -43,7 +35,7 @@ fn one(err: &impl Print, s: &[u8]) {
     text(err, b"trace: argument '");
     text(err, s);
     text(err, b"': ");
-    why(err, argument_in(s));
+    text(err, why(argument_in(s)));
     text(err, b"\n");
 }
 

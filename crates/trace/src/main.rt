@@ -5,11 +5,11 @@
 #![tactic(auto)]
 
 use accepted::accepted;
-use answers::Verdict;
 use bad_argument::say_why;
 use explain::{of_file, refused, refused_file};
 use files::routine::{load_routine, room};
 use files::{load, unfit};
+use memory::Memory;
 use options::Options;
 use output::text;
 use std::env::Env;
@@ -30,82 +30,65 @@ fn usage(err: &impl Print) {
     );
 }
 
-// The file that argument number i names, from address $0000 on. Whether it could be read.
-fn load_memory(rt: &(impl Env + Files + Print), i: usize, mem: &mut [u8]) -> bool {
-    let mut name = [0u8; 4096];
-    let Ok(n) = rt.arg(i, &mut name) else {
-        return false;
-    };
-    if n < 7 {
-        return false;
+// The file that argument number i names, from address $0000 on. None where it cannot be read.
+fn load_memory(rt: &(impl Env + Files + Print), i: usize, mem: &mut Memory) -> Option<()> {
+    let mut buf = [0u8; 4096];
+    let n = rt.arg(i, &mut buf).ok()?;
+    let name = buf[..n].strip_prefix(b"memory=")?;
+    if load(rt, name, mem).is_err() {
+        unfit(rt, name);
+        return None;
     }
-    let file = load(rt, &name[7..n], mem);
-    if !file.whole {
-        unfit(rt, &name[7..n]);
-    }
-    file.whole
+    Some(())
 }
 
-fn judge(rt: &impl Print, o: Options, ticket: &[u8], image: &[u8], mem: [u8; 65536]) {
+fn judge(rt: &impl Print, o: Options, ticket: &[u8], image: &[u8], mem: &mut Memory) {
     match verdict(ticket, image) {
-        Verdict::Refuse(x) => refused(rt, x, ticket, image),
-        Verdict::Accept(_, cost, stack) => accepted(rt, o, ticket, image, mem, cost, stack),
+        Ok(a) => accepted(rt, o, ticket, image, mem, a),
+        Err(x) => refused(rt, x, ticket, image),
     }
 }
 
 // The same for an S-record file, with a buffer for the image that it names. Where the file itself is refused there is
 // no image.
-fn judge_records(
-    rt: &impl Print,
-    o: Options,
-    ticket: &[u8],
-    file: &[u8],
-    image: &mut [u8],
-    mem: [u8; 65536],
-) {
+fn judge_records(rt: &impl Print, o: Options, ticket: &[u8], file: &[u8], mem: &mut Memory) {
+    let mut space = [0u8; 65536];
+    let n = room(ticket, &space);
+    let image = &mut space[..n];
     match verdict_of_records(ticket, file, image) {
-        Verdict::Refuse(x) => {
-            if of_file(x.number) {
-                refused_file(rt, x, ticket, file);
-            } else {
-                refused(rt, x, ticket, image);
-            }
+        Ok(a) => accepted(rt, o, ticket, image, mem, a),
+        Err(x) if of_file(x.number) => refused_file(rt, x, ticket, file),
+        Err(x) => refused(rt, x, ticket, image),
+    }
+}
+
+fn trace(rt: &(impl Env + Files + Print), o: Options) {
+    let mut first = [0u8; 65536];
+    let mut ticket = [0u8; 65536];
+    let mut mem = [0u8; 65536];
+    let Some(r) = load_routine(rt, &mut first, &mut ticket) else {
+        return;
+    };
+    if let Some(i) = o.memory {
+        if load_memory(rt, i, &mut mem).is_none() {
+            return;
         }
-        Verdict::Accept(_, cost, stack) => accepted(rt, o, ticket, image, mem, cost, stack),
+    }
+    let first = &first[..r.first];
+    let ticket = &ticket[..r.ticket];
+    if r.records {
+        judge_records(rt, o, ticket, first, &mut mem);
+    } else {
+        judge(rt, o, ticket, first, &mut mem);
     }
 }
 
 fn main(rt: HostRuntime) {
-    let o = options::read(&rt);
-    if o.bad != 0 {
-        say_why(&rt, &rt.stderr(), o.bad);
-        usage(&rt.stderr());
-        return;
-    }
-    let mut first = [0u8; 65536];
-    let mut ticket = [0u8; 65536];
-    let mut mem = [0u8; 65536];
-    let r = load_routine(&rt, &mut first, &mut ticket);
-    if !r.whole {
-        return;
-    }
-    if o.memory != 0 {
-        if !load_memory(&rt, o.memory, &mut mem) {
-            return;
+    match options::read(&rt) {
+        Ok(o) => trace(&rt, o),
+        Err(i) => {
+            say_why(&rt, &rt.stderr(), i);
+            usage(&rt.stderr());
         }
-    }
-    if r.records {
-        let mut image = [0u8; 65536];
-        let n = room(&ticket[..r.ticket], &image);
-        judge_records(
-            &rt,
-            o,
-            &ticket[..r.ticket],
-            &first[..r.first],
-            &mut image[..n],
-            mem,
-        );
-    } else {
-        judge(&rt, o, &ticket[..r.ticket], &first[..r.first], mem);
     }
 }

@@ -1,7 +1,0 @@
--- The line at hand begins before the byte at hand.
--- Assumes nothing.
-use Rattle.std.proofs.Common.{◌≤◌}
-use Rattle.images.proofs.lines.lines.Given as goal
-
-abbrev pub invariant-loop-i : goal.invariant-loop-i
-invariant-loop-i g l = l.p.from ≤ l.i
