@@ -36,7 +36,7 @@ fn listing_at(mem: &Memory, a: u16) -> Listing {
 
 // From the start until `total` cycles are spent; each instruction is told when it is done. An accepted routine has a
 // mark at every instruction, and none of them is refused.
-fn walk<F: FnMut(Traced)>(w: Walk<'_>, mut told: F)
+fn follow<F: FnMut(Traced)>(w: Walk<'_>, mut told: F)
     requires { F.IsAlwaysCallable told }
 {
     let mut mem = *w.memory;
@@ -72,7 +72,7 @@ fn show(rt: &impl Print, t: Traced) {
 
 // With a line for each instruction.
 pub fn steps(rt: &impl Print, w: Walk<'_>) {
-    walk(w, |t| show(rt, t));
+    follow(w, |t| show(rt, t));
 }
 
 // What is seen at the mark of an instruction: the cycles to go from it and SP after it.
@@ -89,7 +89,7 @@ fn note(visits: &mut [Visits; 4096], mark: usize, t: Traced)
 // code byte.
 pub fn summary(rt: &impl Print, w: Walk<'_>) {
     let mut visits = [Visits::NONE; 4096];
-    walk(w, |t| {
+    follow(w, |t| {
         if let Some(i) = index_of(w.ticket, t.address) {
             note(&mut visits, i, t);
         }
