@@ -1,6 +1,5 @@
 // An inner crate: what is said of lists, digits and Booleans before anything else: a list written into another, the
-// value of a digit, and a bit as a number.
+// value of a digit, and, in specs/, a Boolean as a number.
 #![tactic(auto)]
 
-pub mod bit; // a Boolean as a number
 pub mod digit; // a hexadecimal digit

@@ -46,17 +46,3 @@ impl From<Flags> for u8 {
             + u8::from(f.c)
     }
 }
-
-impl Flags {
-    pub fn from_byte(v: u8) -> Flags
-        ensures { result ≡ flags_of v }
-    {
-        Flags::from(v)
-    }
-
-    pub fn to_byte(self) -> u8
-        ensures { result ≡ byte_of self }
-    {
-        u8::from(self)
-    }
-}
