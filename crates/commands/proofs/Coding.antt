@@ -19,7 +19,8 @@ use Rattle.commands.specs.Fits.{FitsLayout, Fits}
 use Rattle.commands.specs.Fits.FitsLayout.{none, more}
 use Rattle.commands.specs.Progress.{after_of}
 use Rattle.commands.specs.declared.command.Command.{Command}
-use Rattle.commands.specs.declared.parse.ParsedCommand.TheVariants.{Unknown, Cut, Found}
+use Rattle.std.specs.Prelude.{Ok, Err}
+use Rattle.commands.specs.declared.parse.ParseError.TheVariants.{Unknown, Cut}
 use Rattle.commands.specs.declared.progress.Progress.{Progress}
 use Rattle.commands.proofs.Below.{below}
 use Rattle.commands.proofs.HeaderLaw.{Said, header_law, header_said}
@@ -118,7 +119,7 @@ fits_operands (o ∷ os) s a room =
 
 -- ---- reading
 
-pub parse_encode : (c : Command) (s : List ℕ) → Fits c → parse_of (encode_of c ++ s) ≡ Found c
+pub parse_encode : (c : Command) (s : List ℕ) → Fits c → parse_of (encode_of c ++ s) ≡ Ok c
 unfolding parse_of encode_of command_of width_of
 parse_encode c s f =
     let row = layout_of (command_byte_of c) in
@@ -127,7 +128,7 @@ parse_encode c s f =
     rw ((said c).known_byte, le-leb _ _ room, operands_joined f s, (said c).same)
 
 module _ (b : ℕ) (s : List ℕ) (c : Command) where
-  picked : (k r : Bool) → cond k (cond r (Found (command_of b s)) Cut) Unknown ≡ Found c →
+  picked : (k r : Bool) → cond k (cond r (Ok (command_of b s)) (Err Cut)) (Err Unknown) ≡ Ok c →
       (k ≡ true) × (r ≡ true) × (command_of b s ≡ c)
   picked true true e = (refl, refl, cc)
   picked true false e = (refl, cc, cc)
@@ -135,7 +136,7 @@ module _ (b : ℕ) (s : List ℕ) (c : Command) where
   picked false false e = (cc, cc, cc)
 
   -- what is read from a byte and those after it has that byte and their operands
-  parts : parse_of (b ∷ s) ≡ Found c → (command_byte_of c ≡ b) × (operands_of c ≡ operands_in (layout_of b) s)
+  parts : parse_of (b ∷ s) ≡ Ok c → (command_byte_of c ≡ b) × (operands_of c ≡ operands_in (layout_of b) s)
       × (size_of (layout_of b) ≤ length s)
   unfolding parse_of
   parts e =
@@ -144,20 +145,20 @@ module _ (b : ℕ) (s : List ℕ) (c : Command) where
       (cc (p.2, q.0), cc (p.2, q.1), leb-true _ _ p.1)
 
 -- so the byte of a command that is found is the first
-pub byte_found : (b : ℕ) (s : List ℕ) (c : Command) → parse_of (b ∷ s) ≡ Found c → command_byte_of c ≡ b
+pub byte_found : (b : ℕ) (s : List ℕ) (c : Command) → parse_of (b ∷ s) ≡ Ok c → command_byte_of c ≡ b
 byte_found b s c e = (parts b s c e).0
 
 -- nothing is read from no bytes
-none_found : (c : Command) → parse_of [] ≡ Found c → ⊥
+none_found : (c : Command) → parse_of [] ≡ Ok c → ⊥
 unfolding parse_of
 none_found c e = let z : ◌≡◌ {A = ℕ} 0 1 = cc in omega arith
 
-pub parse_room : (s : List ℕ) (c : Command) → parse_of s ≡ Found c → width_of c ≤ length s
+pub parse_room : (s : List ℕ) (c : Command) → parse_of s ≡ Ok c → width_of c ≤ length s
 unfolding width_of
 parse_room [] c e = absurd (none_found c e)
 parse_room (b ∷ s) c e = let p = parts b s c e in rw p.0 (omega (arith, p.2))
 
-pub encode_parse : (s : List ℕ) (c : Command) → AllBytes s → parse_of s ≡ Found c →
+pub encode_parse : (s : List ℕ) (c : Command) → AllBytes s → parse_of s ≡ Ok c →
     encode_of c ++ drop (width_of c) s ≡ s
 unfolding encode_of width_of
 encode_parse [] c a e = absurd (none_found c e)
@@ -166,7 +167,7 @@ encode_parse (b ∷ s) c a e =
     let row = layout_of b in
     rw (p.1, p.0, joined_operands row s (bytes_drop 1 a) p.2, one-add, take-append-drop (size_of row) s)
 
-pub fits_parsed : (s : List ℕ) (c : Command) → AllBytes s → parse_of s ≡ Found c → Fits c
+pub fits_parsed : (s : List ℕ) (c : Command) → AllBytes s → parse_of s ≡ Ok c → Fits c
 fits_parsed [] c a e = absurd (none_found c e)
 fits_parsed (b ∷ s) c a e =
     let p = parts b s c e in

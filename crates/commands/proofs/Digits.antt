@@ -1,25 +1,49 @@
 -- The w bytes of a number and the number of some bytes are each other's inverse.
 -- Assumes nothing.
 use mathlib.Core.Path.{◌≡◌, refl, ◌∙◌}
-use Prim.Native.Nat.{ℕ, zero, suc, ◌+◌, ◌*◌, ◌/◌, ◌%◌, ◌^◌, ◌<◌}
-use native.Mathlib.Nat.{add-zero, zero-add}
+use Prim.Native.Nat.{ℕ, zero, suc, ◌+◌, ◌-◌, ◌*◌, ◌/◌, ◌%◌, ◌^◌, ◌≤◌, ◌<◌}
+use native.Mathlib.Nat.{add-zero, zero-add, pow-succ', pow-le-pow_right, div-div-eq-div-mul}
+use native.Mathlib.Numerals.{add-one}
 use native.Mathlib.Omega.{arith}
 use mathlib.Core.List.{List, [], ◌∷◌, ◌++◌, append_assoc, append-nil}
 use lib.ListN.{length, get_or, take, drop, length-append}
+use Rattle.std.specs.Int.{byte_at, bytes_high_first}
 use Rattle.commands.specs.Number.{number_from, number, digits, AllBytes}
 use Rattle.commands.specs.Every.{none, more}
-use Rattle.commands.proofs.Pieces.{append}
 
 pub length_digits : (w v : ℕ) → length (digits w v) ≡ w
 length_digits zero v = refl
 length_digits (suc w) v = simp (length-append, length_digits w (v / 256)) (omega arith)
 
--- twice as many bytes are those of the high half and of the low half
-pub digits_long : (v : ℕ) → digits 2 (v / 65536) ++ digits 2 v ≡ digits 4 v
-digits_long v = let e : v / 65536 ≡ v / 256 / 256 = omega arith in rw e
+byte_higher : (i v : ℕ) → byte_at (suc i) v ≡ byte_at i (v / 256)
+byte_higher zero v = refl
+byte_higher (suc i) v = rw (pow-succ', ← div-div-eq-div-mul)
 
-pub digits_quad : (v : ℕ) → digits 4 (v / 4294967296) ++ digits 4 v ≡ digits 8 v
-digits_quad v = let e : v / 4294967296 ≡ v / 256 / 256 / 256 / 256 = omega arith in rw e
+-- the bytes of a number are the last of the eight that the code has of it
+high_first : (w v : ℕ) → bytes_high_first (suc w) v ≡ bytes_high_first w (v / 256) ++ (v % 256 ∷ [])
+high_first zero v = refl
+high_first (suc w) v = rw (byte_higher w v, high_first w v)
+
+pub digits_high_first : (w v : ℕ) → bytes_high_first w v ≡ digits w v
+digits_high_first zero v = refl
+digits_high_first (suc w) v = high_first w v ∙ rw (digits_high_first w (v / 256))
+
+suc-add : (n w : ℕ) → suc n + w ≡ suc (n + w)
+suc-add n w = omega arith
+
+last_high_first : (n w v : ℕ) → drop n (bytes_high_first (n + w) v) ≡ bytes_high_first w v
+last_high_first zero w v = rw zero-add
+last_high_first (suc n) w v = rw (suc-add n w) (last_high_first n w v)
+
+pub last_digits : (w v : ℕ) → w ≤ 8 → drop (8 - w) (bytes_high_first 8 v) ≡ digits w v
+last_digits w v h =
+    let e : 8 - w + w ≡ 8 = omega arith in
+    rw e at (last_high_first (8 - w) w v) ∙ digits_high_first w v
+
+-- reading goes on where it stopped
+pub append : (v : ℕ) (s t : List ℕ) → number_from v (s ++ t) ≡ number_from (number_from v s) t
+append v [] t = refl
+append v (b ∷ s) t = append (v * 256 + b) s t
 
 pub number_digits : (w v : ℕ) → v < 256 ^ w → number (digits w v) ≡ v
 number_digits zero v h = omega arith
@@ -64,3 +88,11 @@ bytes_drop (suc n) (more l a) = bytes_drop n a
 pub all_bytes : (s : List ℕ) → ((i : ℕ) → get_or s i 0 < 256) → AllBytes s
 all_bytes [] h = none
 all_bytes (b ∷ s) h = more (h 0) (all_bytes s (λ i. h (suc i)))
+
+-- eight bytes at most fit the code's numbers
+pub eight_fit : (v b w n : ℕ) → v < 256 ^ w → b < 256 → w < n → n ≤ 8 → (v * 256 + b < 256 ^ (w + 1))
+    × (v * 256 + b < 18446744073709551616)
+eight_fit v b w n small byte room most =
+    let here : v * 256 + b < 256 ^ (w + 1) = rw (add-one, pow-succ') (omega arith) in
+    let high : 256 ^ (w + 1) ≤ 256 ^ 8 = pow-le-pow_right {n = 256} (omega arith) {i = w + 1} {j = 8} (omega arith) in
+    (here, omega arith)

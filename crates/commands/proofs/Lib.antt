@@ -1,7 +1,6 @@
 pub mod Every
 pub mod Tests
 pub mod Below
-pub mod Pieces
 pub mod Digits
 pub mod Put
 pub mod Table
@@ -9,4 +8,3 @@ pub mod HeaderLaw
 pub mod Coding
 pub mod Causes
 pub mod Sound
-pub mod Printable

@@ -21,8 +21,7 @@ use Rattle.commands.specs.declared.command.Command.{Command}
 use Rattle.answers.specs.declared.Refusal.{Refusal}
 use Rattle.commands.specs.declared.header.Header.{Header}
 use Rattle.commands.specs.declared.progress.Progress.{Progress}
-use Rattle.commands.specs.declared.admit.Admitted.{Admitted}
-use Rattle.commands.specs.declared.admit.Admitted.TheVariants.{Refused, Next}
+use Rattle.std.specs.Prelude.{Result, Ok, Err}
 use Rattle.commands.proofs.Causes.{in_order_parts, Allowed, allowed}
 use Rattle.commands.proofs.Coding.{width_most}
 use Rattle.commands.proofs.HeaderLaw.{header_law}
@@ -131,7 +130,7 @@ sound_after p c s e = after p s c (allowed p c e)
 
 module _ (p : Progress) (c : Command) (s : Sound p) where
   picked : (r : Refusal) (b : Bool) → eqb (command_cause_of p c) 0 ≡ b →
-      SoundSoFar (cond b (Next (after_of p c)) (Refused r))
+      SoundSoFar (cond b (Ok (after_of p c)) (Err r))
   picked r true e = sound (sound_after p c s (eqb-true _ _ e))
   picked r false e = stopped
 
@@ -139,6 +138,6 @@ module _ (p : Progress) (c : Command) (s : Sound p) where
   unfolding admit_of
   admitted = picked _ _ refl
 
-pub sound_then : (a : Admitted) (c : Command) → SoundSoFar a → SoundSoFar (then_of a c)
-sound_then (Refused r) c stopped = stopped
-sound_then (Next p) c (sound s) = admitted p c s
+pub sound_then : (a : Result Progress Refusal) (c : Command) → SoundSoFar a → SoundSoFar (then_of a c)
+sound_then (Err r) c stopped = stopped
+sound_then (Ok p) c (sound s) = admitted p c s

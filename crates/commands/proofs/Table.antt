@@ -1,68 +1,68 @@
--- The code's rows are those of the table, with four operands each; what four operands come to is what those of a row
+-- The code's rows are those of the table, with four operands each; what these come to is what those of the table's row
 -- come to.
 -- Assumes nothing.
-use mathlib.Core.Path.{◌≡◌, refl, subst}
-use mathlib.Core.Bool.{Bool, true, false, ◌&&◌, ◌||◌, and-eq-true_iff, true≢false, and-true}
-use Prim.Native.Nat.{ℕ, zero, suc, ◌+◌, ◌≤◌}
+use mathlib.Core.Path.{◌≡◌, refl, subst, ◌∙◌}
+use mathlib.Core.Bool.{Bool, true, ◌&&◌, and-eq-true_iff}
+use Prim.Native.Nat.{ℕ, zero, suc, ◌^◌, ◌≤◌, ◌<◌}
+use native.Mathlib.Nat.{pow-le-pow_right}
 use native.Mathlib.Omega.{arith}
-use mathlib.Core.List.{List, [], ◌∷◌, ◌++◌, append-nil, append_assoc}
-use lib.Dec.{eqb, leb}
-use lib.ListN.{get_or, length}
-use lib.Seq.{drop-drop}
-use borrow.Author.Tests.{eqb-true, leb-true, le-leb}
+use mathlib.Core.List.{List, [], ◌∷◌, ◌++◌}
+use Rattle.std.specs.Prelude.{None}
+use lib.Dec.{leb}
+use lib.ListN.{get_or, length, drop, length-append}
+use borrow.Author.Tests.{leb-true, le-leb}
+use Rattle.std.proofs.lemmas.List.Sums.{sum_by-cons}
+use Rattle.commands.specs.Every.{none, more}
 use Rattle.commands.specs.Number.{digits}
 use Rattle.commands.specs.Rows.{CommandOperand, any, within, text, width_in, size_of, in_range, CommandRow}
 use Rattle.commands.specs.Rows.{command_rows, row_of, layout_of}
 use Rattle.commands.specs.Bytes.{joined, operands_in}
 use Rattle.commands.specs.Cause.{all_in_range}
+use Rattle.commands.proofs.Digits.{length_digits}
+use Rattle.commands.specs.declared.row.TableOperand.{TableOperand as CodeOperand}
 use Rattle.commands.specs.declared.row.TableRow.{TableRow as CodeRow}
-use Rattle.commands.specs.declared.command.Operands.{Operands}
-use Rattle.commands.specs.inner.Table.{code_operand, operand_at, code_row, code_size, code_values, values_in}
-use Rattle.commands.specs.inner.Table.{in_range_code, ranges_hold_code, Widths, Width, none, word, long, quad}
-use Rattle.commands.specs.declared.row.WindowStart.{WindowStart}
-use Rattle.commands.specs.declared.row.WindowStart.TheVariants.{NoWindow}
+use Rattle.commands.specs.inner.Table.{code_operand, padded, code_row, code_size, code_values}
+use Rattle.commands.specs.inner.Table.{values_in, in_range_code, ranges_hold_code, Narrow}
+use Rattle.commands.specs.inner.Table.{absent, width_at, FitsCode}
 
 -- ---- the rows
 
--- a width that the code reads and writes
-wide : ℕ → Bool
-wide w = eqb w 0 || (eqb w 2 || (eqb w 4 || eqb w 8))
-
-all_wide : List CommandOperand → Bool
-all_wide [] = true
-all_wide (o ∷ os) = wide (width_in o) && all_wide os
+-- each operand has at most eight bytes
+all_narrow : List CommandOperand → Bool
+all_narrow [] = true
+all_narrow (o ∷ os) = leb (width_in o) 8 && all_narrow os
 
 -- what the code takes for granted of a row: at most four operands of such widths, of at most ten bytes
 taken : CommandRow → Bool
 taken r =
     let os = r.operands in
-    leb (length os) 4 && (all_wide os && leb (size_of os) 10)
+    leb (length os) 4 && (all_narrow os && leb (size_of os) 10)
 
 all_taken : List CommandRow → Bool
 all_taken [] = true
 all_taken (r ∷ rs) = taken r && all_taken rs
 
 abbrev blank_row : CommandRow
-blank_row = record { stage = 0; window = NoWindow; operands = [] }
+blank_row = record { stage = 0; window = None; operands = [] }
 
 taken_at : (rs : List CommandRow) → all_taken rs ≡ true → (b : ℕ) → taken (get_or rs b blank_row) ≡ true
-unfolding taken all_taken all_wide
+unfolding taken all_taken all_narrow
 taken_at [] e b = refl
 taken_at (r ∷ rs) e zero = ((and-eq-true_iff _ _).0 e).0
 taken_at (r ∷ rs) e (suc b) = taken_at rs ((and-eq-true_iff (taken r) _).0 e).1 b
 
 record Taken (b : ℕ) : Type 0 where
   short : length (layout_of b) ≤ 4
-  wides : all_wide (layout_of b) ≡ true
+  narrow : all_narrow (layout_of b) ≡ true
   sized : size_of (layout_of b) ≤ 10
 
 -- the test of the whole table
 row_taken : (b : ℕ) → Taken b
-unfolding taken all_taken all_wide wide
+unfolding taken all_taken all_narrow
 row_taken b =
     let t = (and-eq-true_iff (leb (length (layout_of b)) 4) _).0 (taken_at command_rows refl b) in
-    let u = (and-eq-true_iff (all_wide (layout_of b)) _).0 t.1 in
-    record { short = leb-true _ _ t.0; wides = u.0; sized = leb-true _ _ u.1 }
+    let u = (and-eq-true_iff (all_narrow (layout_of b)) _).0 t.1 in
+    record { short = leb-true _ _ t.0; narrow = u.0; sized = leb-true _ _ u.1 }
 
 pub row_short : (b : ℕ) → length (layout_of b) ≤ 4
 row_short b = (row_taken b).short
@@ -70,51 +70,51 @@ row_short b = (row_taken b).short
 pub row_size : (b : ℕ) → size_of (layout_of b) ≤ 10
 row_size b = (row_taken b).sized
 
-by_test : (w : ℕ) (a b c d : Bool) → eqb w 0 ≡ a → eqb w 2 ≡ b → eqb w 4 ≡ c → eqb w 8 ≡ d →
-    (a || (b || (c || d))) ≡ true → Width w
-by_test w true b c d e₀ e₂ e₄ e₈ t = rw (eqb-true w 0 e₀) none
-by_test w false true c d e₀ e₂ e₄ e₈ t = rw (eqb-true w 2 e₂) word
-by_test w false false true d e₀ e₂ e₄ e₈ t = rw (eqb-true w 4 e₄) long
-by_test w false false false true e₀ e₂ e₄ e₈ t = rw (eqb-true w 8 e₈) quad
-by_test w false false false false e₀ e₂ e₄ e₈ t = absurd (true≢false cc)
-
 operand_width : (o : CommandOperand) → (code_operand o).width ≡ width_in o
 operand_width (any w) = refl
 operand_width (within w l m) = refl
 operand_width (text w) = refl
 
-operand_width_at : (os : List CommandOperand) → all_wide os ≡ true → (i : ℕ) → Width (operand_at os i).width
-unfolding all_wide wide
-operand_width_at [] e i = none
-operand_width_at (o ∷ os) e zero =
-    rw (operand_width o) (by_test (width_in o) _ _ _ _ refl refl refl refl ((and-eq-true_iff _ _).0 e).0)
-operand_width_at (o ∷ os) e (suc i) = operand_width_at os ((and-eq-true_iff (wide (width_in o)) _).0 e).1 i
+padded_narrow : (n : ℕ) (os : List CommandOperand) → all_narrow os ≡ true → Narrow (padded n os)
+unfolding all_narrow
+padded_narrow zero os e = none
+padded_narrow (suc n) [] e = more (omega arith) (padded_narrow n [] e)
+padded_narrow (suc n) (o ∷ os) e =
+    let a = (and-eq-true_iff (leb (width_in o) 8) _).0 e in
+    more (rw (operand_width o) (leb-true _ _ a.0)) (padded_narrow n os a.1)
 
--- the width of each operand of a row is one that the code reads and writes
-pub row_width : (b i : ℕ) → Width (operand_at (layout_of b) i).width
-row_width b i = operand_width_at (layout_of b) (row_taken b).wides i
+-- ---- n operands for those of a layout, which has no more
 
--- ---- four operands for those of a row
+length_padded : (n : ℕ) (os : List CommandOperand) → length (padded n os) ≡ n
+length_padded zero os = refl
+length_padded (suc n) [] = omega (arith, length_padded n [])
+length_padded (suc n) (o ∷ os) = omega (arith, length_padded n os)
 
-abbrev width : List CommandOperand → ℕ → ℕ
-width os i = (operand_at os i).width
+size_padded : (n : ℕ) (os : List CommandOperand) → length os ≤ n → code_size (padded n os) ≡ size_of os
+size_padded zero [] l = refl
+size_padded zero (o ∷ os) l = absurd (omega arith)
+size_padded (suc n) [] l = rw (sum_by-cons, size_padded n [] (omega arith))
+size_padded (suc n) (o ∷ os) l = rw sum_by-cons (simp operand_width (omega (arith, size_padded n os (omega arith))))
 
-size_code : (os : List CommandOperand) → length os ≤ 4 → width os 0 + width os 1 + width os 2 + width os 3 ≡ size_of os
-size_code [] l = refl
-size_code (o ∷ []) l = simp operand_width (omega arith)
-size_code (o ∷ p ∷ []) l = simp operand_width (omega arith)
-size_code (o ∷ p ∷ q ∷ []) l = simp operand_width (omega arith)
-size_code (o ∷ p ∷ q ∷ r ∷ []) l = simp operand_width (omega arith)
-size_code (o ∷ p ∷ q ∷ r ∷ t ∷ os) l = absurd (omega arith)
+-- n values: those of a command, and 0 after its last
+abbrev padded_values : ℕ → List ℕ → List ℕ
+padded_values zero vs = []
+padded_values (suc n) [] = 0 ∷ padded_values n []
+padded_values (suc n) (v ∷ vs) = v ∷ padded_values n vs
 
-values_code : (n : ℕ) (x : WindowStart) (os : List CommandOperand) (s : List ℕ) → length os ≤ 4 →
-    values_in (code_row (record { stage = n; window = x; operands = os })) s ≡ code_values (operands_in os s)
-values_code n x [] s l = refl
-values_code n x (o ∷ []) s l = simp operand_width
-values_code n x (o ∷ p ∷ []) s l = simp operand_width
-values_code n x (o ∷ p ∷ q ∷ []) s l = simp (operand_width, drop-drop)
-values_code n x (o ∷ p ∷ q ∷ r ∷ []) s l = simp (operand_width, drop-drop)
-values_code n x (o ∷ p ∷ q ∷ r ∷ t ∷ os) s l = absurd (omega arith)
+four : (vs : List ℕ) → code_values vs ≡ padded_values 4 vs
+four [] = refl
+four (v ∷ []) = refl
+four (v ∷ w ∷ []) = refl
+four (v ∷ w ∷ x ∷ []) = refl
+four (v ∷ w ∷ x ∷ y ∷ vs) = refl
+
+values_padded : (n : ℕ) (os : List CommandOperand) (s : List ℕ) → length os ≤ n →
+    values_in (padded n os) s ≡ padded_values n (operands_in os s)
+values_padded zero [] s l = refl
+values_padded zero (o ∷ os) s l = absurd (omega arith)
+values_padded (suc n) [] s l = simp (values_padded n [] s (omega arith))
+values_padded (suc n) (o ∷ os) s l = simp (operand_width, values_padded n os (drop (width_in o) s) (omega arith))
 
 -- as many values as operands
 pub data Matched : List CommandOperand → List ℕ → Type 0 where
@@ -128,18 +128,26 @@ matched [] (v ∷ vs) e = absurd (omega arith)
 matched (o ∷ os) [] e = absurd (omega arith)
 matched (o ∷ os) (v ∷ vs) e = one (matched os vs (omega arith))
 
-abbrev bytes_at : List CommandOperand → List ℕ → ℕ → List ℕ
-bytes_at os vs i = digits (width os i) (get_or vs i 0)
+-- the bytes of some values, by the widths of the code's operands
+abbrev pub joined_code : List CodeOperand → List ℕ → List ℕ
+joined_code [] vs = []
+joined_code (o ∷ os) [] = []
+joined_code (o ∷ os) (v ∷ vs) = digits o.width v ++ joined_code os vs
 
-joined_code : {os : List CommandOperand} {vs : List ℕ} → Matched os vs → length os ≤ 4
-    → (bytes_at os vs 0 ++ bytes_at os vs 1) ++ (bytes_at os vs 2 ++ bytes_at os vs 3) ≡ joined os vs
-joined_code nothing l = refl
-joined_code (one {o} nothing) l = simp (operand_width, append-nil)
-joined_code (one {o} (one {o = p} nothing)) l = simp (operand_width, append-nil)
-joined_code (one {o} (one {o = p} (one {o = q} nothing))) l = simp (operand_width, append-nil, append_assoc)
-joined_code (one {o} (one {o = p} (one {o = q} (one {o = r} nothing)))) l =
-    simp (operand_width, append-nil, append_assoc)
-joined_code (one (one (one (one (one m))))) l = absurd (omega arith)
+pub length_joined_code : (os : List CodeOperand) (vs : List ℕ) → length vs ≡ length os →
+    length (joined_code os vs) ≡ code_size os
+length_joined_code [] [] e = refl
+length_joined_code [] (v ∷ vs) e = absurd (omega arith)
+length_joined_code (o ∷ os) [] e = absurd (omega arith)
+length_joined_code (o ∷ os) (v ∷ vs) e =
+    rw (length-append, length_digits, sum_by-cons, length_joined_code os vs (omega arith))
+
+joined_padded : (n : ℕ) {os : List CommandOperand} {vs : List ℕ} → Matched os vs → length os ≤ n →
+    joined_code (padded n os) (padded_values n vs) ≡ joined os vs
+joined_padded zero nothing l = refl
+joined_padded zero (one m) l = absurd (omega arith)
+joined_padded (suc n) nothing l = joined_padded n nothing (omega arith)
+joined_padded (suc n) (one {o} m) l = simp (operand_width o, joined_padded n m (omega arith))
 
 -- ---- ranges
 
@@ -149,56 +157,57 @@ in_range_by_code (any w) v h = simp (le-leb 0 v (omega arith), le-leb _ _ h)
 in_range_by_code (within w l m) v h = refl
 in_range_by_code (text w) v h = refl
 
--- four values of eight bytes each
-abbrev Bounded : Operands → Type 0
-Bounded v =
-    (v.first ≤ 0xffffffffffffffff)
-    × (v.second ≤ 0xffffffffffffffff)
-    × (v.third ≤ 0xffffffffffffffff)
-    × (v.fourth ≤ 0xffffffffffffffff)
+-- the first n values have at most eight bytes each
+abbrev Bounded : ℕ → List ℕ → Type 0
+Bounded n vs = (i : ℕ) → i < n → get_or vs i 0 ≤ 0xffffffffffffffff
 
-abbrev range_at : List CommandOperand → List ℕ → ℕ → Bool
-range_at os vs i = in_range_code (operand_at os i) (get_or vs i 0)
+narrow_at : {os : List CodeOperand} → Narrow os → (i : ℕ) → (get_or os i absent).width ≤ 8
+narrow_at none i = omega arith
+narrow_at (more n ns) zero = n
+narrow_at (more n ns) (suc i) = narrow_at ns i
 
-ranges_code : {os : List CommandOperand} {vs : List ℕ} → Matched os vs → length os ≤ 4 → Bounded (code_values vs)
-    → (range_at os vs 0 && (range_at os vs 1 && (range_at os vs 2 && range_at os vs 3))) ≡ all_in_range os vs
-ranges_code nothing l h = refl
-ranges_code (one {o} nothing) l h = simp (in_range_by_code o _ h.0)
-ranges_code (one {o} (one {o = p} nothing)) l h = simp (in_range_by_code o _ h.0, in_range_by_code p _ h.1)
-ranges_code (one {o} (one {o = p} (one {o = q} nothing))) l h =
-    simp (in_range_by_code o _ h.0, in_range_by_code p _ h.1, in_range_by_code q _ h.2)
-ranges_code (one {o} (one {o = p} (one {o = q} (one {o = r} nothing)))) l h =
-    simp (
-      in_range_by_code o _ h.0,
-      in_range_by_code p _ h.1,
-      in_range_by_code q _ h.2,
-      in_range_by_code r _ h.3,
-      and-true,
-    )
-ranges_code (one (one (one (one (one m))))) l h = absurd (omega arith)
+bounded_by : (w v : ℕ) → w ≤ 8 → v < 256 ^ w → v ≤ 0xffffffffffffffff
+bounded_by w v h l = let m : 256 ^ w ≤ 256 ^ 8 = pow-le-pow_right {n = 256} (omega arith) {i = w} {j = 8} h in omega arith
+
+bounded : (r : CodeRow) (v : List ℕ) → Narrow r.operands → FitsCode r v → Bounded 4 v
+bounded r v n f zero h = bounded_by (width_at r 0) _ (narrow_at n 0) f.0
+bounded r v n f (suc zero) h = bounded_by (width_at r 1) _ (narrow_at n 1) f.1
+bounded r v n f (suc (suc zero)) h = bounded_by (width_at r 2) _ (narrow_at n 2) f.2
+bounded r v n f (suc (suc (suc zero))) h = bounded_by (width_at r 3) _ (narrow_at n 3) f.3
+bounded r v n f (suc (suc (suc (suc i)))) h = absurd (omega arith)
+
+ranges_padded : (n : ℕ) {os : List CommandOperand} {vs : List ℕ} → Matched os vs → length os ≤ n →
+    Bounded n (padded_values n vs) → ranges_hold_code (padded n os) (padded_values n vs) ≡ all_in_range os vs
+ranges_padded zero nothing l h = refl
+ranges_padded zero (one m) l h = absurd (omega arith)
+ranges_padded (suc n) nothing l h = ranges_padded n nothing (omega arith) (λ i l. h (suc i) (omega arith))
+ranges_padded (suc n) (one {o} m) l h =
+    simp (in_range_by_code o _ (h 0 (omega arith)), ranges_padded n m (omega arith) (λ i l. h (suc i) (omega arith)))
 
 -- ---- a row of the code, and values of the code
 
 module _ (b : ℕ) (row : CodeRow) (e : row ≡ code_row (row_of b)) where
-  pub row_sizes : code_size row ≡ size_of (layout_of b)
-  row_sizes = rw e (size_code (layout_of b) (row_short b))
+  pub row_sizes : code_size row.operands ≡ size_of (layout_of b)
+  row_sizes = rw e (size_padded 4 (layout_of b) (row_short b))
 
-  pub row_widths : Widths row
-  row_widths = rw e (row_width b 0, row_width b 1, row_width b 2, row_width b 3)
+  pub row_narrow : Narrow row.operands
+  row_narrow = rw e (padded_narrow 4 (layout_of b) (row_taken b).narrow)
+
+  pub row_four : length row.operands ≡ 4
+  row_four = rw e (length_padded 4 (layout_of b))
 
   -- no row has more than ten bytes of operands
-  pub row_small : code_size row ≤ 10
+  pub row_small : code_size row.operands ≤ 10
   row_small = rw row_sizes (row_size b)
 
-  pub row_values : (s : List ℕ) → values_in row s ≡ code_values (operands_in (layout_of b) s)
-  row_values s = rw e (values_code (row_of b).stage (row_of b).window (layout_of b) s (row_short b))
+  pub row_values : (s : List ℕ) → values_in row.operands s ≡ code_values (operands_in (layout_of b) s)
+  row_values s = rw (e, four) (values_padded 4 (layout_of b) s (row_short b))
 
-  module _ (vs : List ℕ) (same : length vs ≡ length (layout_of b)) (v : Operands) (f : v ≡ code_values vs) where
-    pub row_joined :
-        (digits row.first.width v.first ++ digits row.second.width v.second)
-        ++ (digits row.third.width v.third ++ digits row.fourth.width v.fourth)
-        ≡ joined (layout_of b) vs
-    row_joined = rw (e, f) (joined_code (matched (layout_of b) vs same) (row_short b))
+  module _ (vs : List ℕ) (same : length vs ≡ length (layout_of b)) (v : List ℕ) (f : v ≡ code_values vs) where
+    pub row_joined : joined_code row.operands v ≡ joined (layout_of b) vs
+    row_joined = rw (e, f, four) (joined_padded 4 (matched (layout_of b) vs same) (row_short b))
 
-    pub row_ranges : Bounded v → ranges_hold_code row v ≡ all_in_range (layout_of b) vs
-    row_ranges h = rw (e, f) (ranges_code (matched (layout_of b) vs same) (row_short b) (subst Bounded f h))
+    pub row_ranges : FitsCode row v → ranges_hold_code row.operands v ≡ all_in_range (layout_of b) vs
+    row_ranges h =
+        rw (e, f, four) (ranges_padded 4 (matched (layout_of b) vs same) (row_short b)
+        (subst (Bounded 4) (f ∙ four vs) (bounded row v row_narrow h)))

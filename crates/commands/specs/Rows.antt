@@ -2,6 +2,7 @@
 -- ticket"; document 02, e, of $07).
 -- Assumes nothing.
 use Rattle.std.specs.Prelude.{ℕ, ◌+◌, Bool, true, ◌&&◌, List, [], ◌∷◌, ltb, leb, get_or, length, Option, Some, None}
+use Rattle.std.specs.List.{list_all}
 use Rattle.commands.specs.Number.{digits}
 
 -- an operand: its width, and its range if it has one
@@ -25,8 +26,7 @@ between l m v = leb l v && leb v m
 
 -- each byte of a text is $20 to $7E
 abbrev pub printable : List ℕ → Bool
-printable [] = true
-printable (b ∷ s) = between 0x20 0x7e b && printable s
+printable s = list_all (λ b. between 0x20 0x7e b) s
 
 abbrev pub in_range : CommandOperand → ℕ → Bool
 in_range (any w) v = true

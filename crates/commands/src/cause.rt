@@ -1,5 +1,5 @@
 // Document 01's causes 3 to 7 and document 02's 29, each as what must hold, and the first that does not.
-ghost use Rattle.std.specs.Prelude.{◌≡◌};
+ghost use Rattle.std.specs.Prelude.{◌≡◌, ◌≤◌};
 ghost use Rattle.commands.specs.Rows.{between, printable};
 ghost use Rattle.commands.specs.Number.{digits};
 ghost use Rattle.commands.specs.Cause.{may_come, follows, in_order, ranges_hold, edges_within, apart, apart_from};
@@ -44,23 +44,22 @@ fn between(least: u64, most: u64, v: u64) -> bool
 }
 
 // Each byte of a text is $20 to $7E.
+fn all_printable(s: &[u8]) -> bool
+    ensures { result ≡ printable s.now }
+{
+    s.iter().all(|b| between(0x20, 0x7e, u64::from(*b)))
+}
+
+// The last bytes of a number.
 fn printable(text: u64, width: usize) -> bool
+    requires { width ≤ 8 }
     ensures { result ≡ printable (digits width text) }
 {
-    let mut t = text;
-    let mut left = width;
-    while 0 < left {
-        let b = t % 256;
-        if !between(0x20, 0x7e, b) {
-            return false;
-        }
-        t = t / 256;
-        left -= 1;
-    }
-    true
+    all_printable(&text.to_be_bytes()[8 - width..])
 }
 
 fn in_range(o: TableOperand, v: u64) -> bool
+    requires { o.width ≤ 8 }
     ensures { result ≡ in_range_code o v }
 {
     if o.text {
@@ -73,11 +72,14 @@ fn in_range(o: TableOperand, v: u64) -> bool
 fn ranges_hold(c: Command) -> bool
     ensures { result ≡ ranges_hold c }
 {
-    let v = operands_of(c);
     let row = row_of(byte_of(c));
-    in_range(row.first, v.first)
-        & (in_range(row.second, v.second)
-            & (in_range(row.third, v.third) & in_range(row.fourth, v.fourth)))
+    let values = operands_of(c);
+    for (o, v) in row.operands.iter().zip(&values) {
+        if !in_range(*o, *v) {
+            return false;
+        }
+    }
+    true
 }
 
 fn edges_within(w: Window, least: u16) -> bool

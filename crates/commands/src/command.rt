@@ -1,9 +1,9 @@
 // The commands of a ticket, and the operands of each (document 01, "The ticket"; document 02, e, of $07).
-ghost use Rattle.std.specs.Prelude.{◌≡◌, ◌<◌, length};
+ghost use Rattle.std.specs.Prelude.{◌≡◌, ◌<◌, length, get_or};
 ghost use Rattle.commands.specs.Rows.{command_rows, row_of};
 ghost use Rattle.commands.specs.Command.{header_byte_of, command_byte_of, window_operands_of, header_operands_of};
 ghost use Rattle.commands.specs.Command.{operands_of, command_with, window_of};
-ghost use Rattle.commands.specs.inner.Table.{code_row, code_values, values_of, FitsCode};
+ghost use Rattle.commands.specs.inner.Table.{code_row, code_values, FitsCode};
 
 use crate::header::Window;
 use registers::{Cycles, StackBytes};
@@ -36,13 +36,7 @@ pub enum Command {
 }
 
 // The operands of a command, in the order of its row; those that it lacks are 0.
-#[derive(Clone, Copy)]
-pub struct Operands {
-    pub first: u64,
-    pub second: u64,
-    pub third: u64,
-    pub fourth: u64,
-}
+pub type Operands = [u64; 4];
 
 fn header_byte(c: HeaderCommand) -> u8
     ensures { result ≡ header_byte_of c }
@@ -67,21 +61,10 @@ pub fn byte_of(c: Command) -> u8
     }
 }
 
-fn pair(first: u64, second: u64) -> Operands
-    ensures { result ≡ record { first = first; second = second; third = 0; fourth = 0 } }
-{
-    Operands {
-        first,
-        second,
-        third: 0,
-        fourth: 0,
-    }
-}
-
 fn window_operands(w: Window) -> Operands
     ensures { result ≡ code_values (window_operands_of w) }
 {
-    pair(w.start as u64, w.length as u64)
+    [w.start as u64, w.length as u64, 0, 0]
 }
 
 fn header_operands(c: HeaderCommand) -> Operands
@@ -90,8 +73,8 @@ fn header_operands(c: HeaderCommand) -> Operands
     match c {
         HeaderCommand::Code(w) | HeaderCommand::Data(w) | HeaderCommand::Stack(w) =>
             window_operands(w),
-        HeaderCommand::Entry(a, l) => pair(a as u64, l.0 as u64),
-        HeaderCommand::Home(a) => pair(a as u64, 0),
+        HeaderCommand::Entry(a, l) => [a as u64, l.0 as u64, 0, 0],
+        HeaderCommand::Home(a) => [a as u64, 0, 0, 0],
     }
 }
 
@@ -100,49 +83,44 @@ pub fn operands_of(c: Command) -> Operands
     ensures { (result ≡ code_values (operands_of c)) × FitsCode (code_row (row_of (command_byte_of c))) result }
 {
     match c {
-        Command::End => pair(0, 0),
+        Command::End => [0; 4],
         Command::Header(part) => header_operands(part),
-        Command::Mark(a, k) => Operands {
-            first: a as u64,
-            second: k.cost.0 as u64,
-            third: k.depth.0 as u64,
-            fourth: k.need.0 as u64,
-        },
-        Command::Name(a, t) => pair(a as u64, t),
+        Command::Mark(a, k) => [a as u64, k.cost.0 as u64, k.depth.0 as u64, k.need.0 as u64],
+        Command::Name(a, t) => [a as u64, t, 0, 0],
     }
 }
 
 // The window that two operands are.
 pub fn window(v: Operands) -> Window
-    requires { (v.first < 65536) × (v.second < 65536) }
-    ensures { result ≡ window_of (values_of v) }
+    requires { (get_or v 0 0 < 65536) × (get_or v 1 0 < 65536) }
+    ensures { result ≡ window_of v }
 {
     Window {
-        start: v.first as u16,
-        length: v.second as u16,
+        start: v[0] as u16,
+        length: v[1] as u16,
     }
 }
 
 // The command of a byte and its operands.
 pub fn command_with(b: u8, v: Operands) -> Command
     requires { (b < length command_rows) × FitsCode (code_row (row_of b)) v }
-    ensures { result ≡ command_with b (values_of v) }
+    ensures { result ≡ command_with b v }
 {
     match b {
         0x00 => Command::End,
         0x01 => Command::Header(HeaderCommand::Code(window(v))),
         0x02 => Command::Header(HeaderCommand::Data(window(v))),
         0x03 => Command::Header(HeaderCommand::Stack(window(v))),
-        0x04 => Command::Header(HeaderCommand::Entry(v.first as u16, Cycles(v.second as u32))),
+        0x04 => Command::Header(HeaderCommand::Entry(v[0] as u16, Cycles(v[1] as u32))),
         0x05 => Command::Mark(
-            v.first as u16,
+            v[0] as u16,
             Claim {
-                cost: Cycles(v.second as u32),
-                depth: StackBytes(v.third as u16),
-                need: StackBytes(v.fourth as u16),
+                cost: Cycles(v[1] as u32),
+                depth: StackBytes(v[2] as u16),
+                need: StackBytes(v[3] as u16),
             },
         ),
-        0x06 => Command::Name(v.first as u16, v.second),
-        _ => Command::Header(HeaderCommand::Home(v.first as u16)), // 0x07
+        0x06 => Command::Name(v[0] as u16, v[1]),
+        _ => Command::Header(HeaderCommand::Home(v[0] as u16)), // 0x07
     }
 }

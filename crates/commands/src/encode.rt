@@ -20,11 +20,14 @@ pub fn put_command(c: Command, out: &mut [u8], at: usize) -> usize
     ensures { (out.new ≡ spliced out.old at (encode_of c)) × (result ≡ at + width_of c) }
 {
     let b = byte_of(c);
-    let v = operands_of(c);
     let row = row_of(b);
+    let values = operands_of(c);
     out[at] = b;
-    let to_second = put_number(v.first, row.first.width, out, at + 1);
-    let to_third = put_number(v.second, row.second.width, out, to_second);
-    let to_fourth = put_number(v.third, row.third.width, out, to_third);
-    put_number(v.fourth, row.fourth.width, out, to_fourth)
+    let mut next = at + 1;
+    for (v, o) in values.iter().zip(&row.operands) {
+        let from = next;
+        next += o.width;
+        put_number(*v, &mut out[from..next]);
+    }
+    next
 }

@@ -1,7 +1,7 @@
 // The command that bytes begin with: its byte, then its operands by the widths of its row.
 ghost use Rattle.std.specs.Prelude.{◌≡◌, ◌≤◌, length};
 ghost use Rattle.commands.specs.Bytes.{parse_of};
-ghost use Rattle.commands.specs.inner.Table.{Widths, FitsCode, code_size, values_in};
+ghost use Rattle.commands.specs.inner.Table.{Narrow, FitsCode, code_size, values_in};
 
 use crate::command::{Command, Operands, command_with};
 use crate::number::number;
@@ -16,18 +16,17 @@ pub enum ParseError {
 
 // The operands of a row that bytes begin with.
 fn operands_in(row: TableRow, s: &[u8]) -> Operands
-    requires { Widths row × (code_size row ≤ length s.now) × (code_size row ≤ 10) }
-    ensures { (result ≡ values_in row s.now) × FitsCode row result }
+    requires { Narrow row.operands × (code_size row.operands ≤ length s.now) }
+    ensures { (result ≡ values_in row.operands s.now) × FitsCode row result }
 {
-    let to_second = row.first.width;
-    let to_third = to_second + row.second.width;
-    let to_fourth = to_third + row.third.width;
-    Operands {
-        first: number(s, 0, row.first.width),
-        second: number(s, to_second, row.second.width),
-        third: number(s, to_third, row.third.width),
-        fourth: number(s, to_fourth, row.fourth.width),
+    let mut values = [0; 4];
+    let mut left = s;
+    for (i, o) in row.operands.iter().enumerate() {
+        let (head, tail) = left.split_at(o.width);
+        values[i] = number(head);
+        left = tail;
     }
+    values
 }
 
 pub fn parse(s: &[u8]) -> Result<Command, ParseError>

@@ -18,10 +18,7 @@ pub struct TableOperand {
 pub struct TableRow {
     pub stage: u8, // its place in the sequence of the header's commands
     pub window: Option<u16>, // of a window, whose start and length are its first two operands: its least start
-    pub first: TableOperand,
-    pub second: TableOperand,
-    pub third: TableOperand,
-    pub fourth: TableOperand,
+    pub operands: [TableOperand; 4],
 }
 
 // The command bytes are those below it.
@@ -41,58 +38,44 @@ const ABSENT: TableOperand = TableOperand {
 
 const ADDRESS: TableOperand = TableOperand {
     width: 2,
-    least: 0,
-    most: 0xffffffffffffffff,
-    text: false,
+    most: u64::MAX,
+    ..ABSENT
 };
 
 const CODE_LENGTH: TableOperand = TableOperand {
-    width: 2,
     least: 1,
     most: 4096,
-    text: false,
+    ..ADDRESS
 };
 
 const DATA_LENGTH: TableOperand = TableOperand {
-    width: 2,
-    least: 0,
     most: 8192,
-    text: false,
+    ..ADDRESS
 };
 
 const STACK_LENGTH: TableOperand = TableOperand {
-    width: 2,
     least: 2,
     most: 1024,
-    text: false,
+    ..ADDRESS
 };
 
-const LIMIT: TableOperand = TableOperand {
-    width: 4,
-    least: 1,
-    most: 2000000,
-    text: false,
-};
+const LIMIT: TableOperand = TableOperand { least: 1, ..COST };
 
 const COST: TableOperand = TableOperand {
     width: 4,
-    least: 0,
     most: 2000000,
-    text: false,
+    ..ABSENT
 };
 
 const STACK_BYTES: TableOperand = TableOperand {
-    width: 2,
-    least: 0,
     most: 1022,
-    text: false,
+    ..ADDRESS
 };
 
 const TEXT: TableOperand = TableOperand {
     width: 8,
-    least: 0,
-    most: 0xffffffffffffffff,
     text: true,
+    ..ADDRESS
 };
 
 #[rattlefmt::skip]
@@ -103,43 +86,43 @@ pub fn row_of(b: u8) -> TableRow
     match b {
         0x00 => TableRow { // end
             stage: HEADER_COMMANDS, window: None,
-            first: ABSENT, second: ABSENT, third: ABSENT, fourth: ABSENT,
+            operands: [ABSENT, ABSENT, ABSENT, ABSENT],
         },
         0x01 => TableRow { // code window
             stage: 0, window: Some(1),
-            first: ADDRESS, second: CODE_LENGTH, third: ABSENT, fourth: ABSENT,
+            operands: [ADDRESS, CODE_LENGTH, ABSENT, ABSENT],
         },
         0x02 => TableRow { // data window
             stage: 1, window: Some(0),
-            first: ADDRESS, second: DATA_LENGTH, third: ABSENT, fourth: ABSENT,
+            operands: [ADDRESS, DATA_LENGTH, ABSENT, ABSENT],
         },
         0x03 => TableRow { // stack window
             stage: 2, window: Some(1),
-            first: ADDRESS, second: STACK_LENGTH, third: ABSENT, fourth: ABSENT,
+            operands: [ADDRESS, STACK_LENGTH, ABSENT, ABSENT],
         },
         0x04 => TableRow { // entry
             stage: 3, window: None,
-            first: ADDRESS, second: LIMIT, third: ABSENT, fourth: ABSENT,
+            operands: [ADDRESS, LIMIT, ABSENT, ABSENT],
         },
         0x05 => TableRow { // mark
             stage: HEADER_COMMANDS, window: None,
-            first: ADDRESS, second: COST, third: STACK_BYTES, fourth: STACK_BYTES,
+            operands: [ADDRESS, COST, STACK_BYTES, STACK_BYTES],
         },
         0x06 => TableRow { // name
             stage: HEADER_COMMANDS, window: None,
-            first: ADDRESS, second: TEXT, third: ABSENT, fourth: ABSENT,
+            operands: [ADDRESS, TEXT, ABSENT, ABSENT],
         },
         _ => TableRow { // $07 home
             stage: REQUIRED_COMMANDS, window: None,
-            first: ADDRESS, second: ABSENT, third: ABSENT, fourth: ABSENT,
+            operands: [ADDRESS, ABSENT, ABSENT, ABSENT],
         },
     }
 }
 
 // How many bytes the operands of a row have.
 pub fn size(row: TableRow) -> usize
-    requires { code_size row ≤ 10 }
-    ensures { result ≡ code_size row }
+    requires { code_size row.operands ≤ 10 }
+    ensures { result ≡ code_size row.operands }
 {
-    row.first.width + row.second.width + row.third.width + row.fourth.width
+    row.operands.iter().map(|o| o.width).sum()
 }

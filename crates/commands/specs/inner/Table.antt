@@ -1,12 +1,12 @@
 -- The table of commands as the code has it: rows of four operands, those that a command lacks without bytes.
 -- Assumes nothing.
-use Rattle.std.specs.Prelude.{ℕ, zero, suc, ◌+◌, ◌^◌, ◌<◌, Bool, true, false, cond, ◌&&◌, List, [], ◌∷◌, get_or, take}
-use Rattle.std.specs.Prelude.{drop}
+use Rattle.std.specs.Prelude.{ℕ, zero, suc, ◌^◌, ◌≤◌, ◌<◌, Bool, true, false, cond, ◌&&◌, List, [], ◌∷◌, get_or, take}
+use Rattle.std.specs.Prelude.{drop, sum_by}
+use Rattle.commands.specs.Every.{Every}
 use Rattle.commands.specs.Number.{number, digits}
 use Rattle.commands.specs.Rows.{CommandOperand, any, within, text, between, printable, CommandRow}
 use Rattle.commands.specs.declared.row.TableOperand.{TableOperand as CodeOperand}
 use Rattle.commands.specs.declared.row.TableRow.{TableRow as CodeRow}
-use Rattle.commands.specs.declared.command.Operands.{Operands}
 
 abbrev pub code_operand : CommandOperand → CodeOperand
 code_operand (any w) = record { width = w; least = 0; most = 0xffffffffffffffff; text = false }
@@ -16,67 +16,48 @@ code_operand (text w) = record { width = w; least = 0; most = 0xffffffffffffffff
 abbrev pub absent : CodeOperand
 absent = record { width = 0; least = 0; most = 0; text = false }
 
-abbrev pub operand_at : List CommandOperand → ℕ → CodeOperand
-operand_at [] i = absent
-operand_at (o ∷ os) zero = code_operand o
-operand_at (o ∷ os) (suc i) = operand_at os i
+-- n of them: those of a layout, and absent ones after its last
+abbrev pub padded : ℕ → List CommandOperand → List CodeOperand
+padded zero os = []
+padded (suc n) [] = absent ∷ padded n []
+padded (suc n) (o ∷ os) = code_operand o ∷ padded n os
 
 abbrev pub code_row : CommandRow → CodeRow
-code_row r =
-    let os = r.operands in
-    record {
-      stage = r.stage;
-      window = r.window;
-      first = operand_at os 0;
-      second = operand_at os 1;
-      third = operand_at os 2;
-      fourth = operand_at os 3;
-    }
+code_row r = record { stage = r.stage; window = r.window; operands = padded 4 r.operands }
 
-abbrev pub code_size : CodeRow → ℕ
-code_size r = r.first.width + r.second.width + r.third.width + r.fourth.width
+-- how many bytes some operands have
+abbrev pub code_size : List CodeOperand → ℕ
+code_size os = sum_by (λ o. o.width) os
 
 -- some values as the code has them
-abbrev pub code_values : List ℕ → Operands
-code_values vs = record { first = get_or vs 0 0; second = get_or vs 1 0; third = get_or vs 2 0; fourth = get_or vs 3 0 }
+abbrev pub code_values : List ℕ → List ℕ
+code_values vs = get_or vs 0 0 ∷ get_or vs 1 0 ∷ get_or vs 2 0 ∷ get_or vs 3 0 ∷ []
 
-abbrev pub values_of : Operands → List ℕ
-values_of v = v.first ∷ v.second ∷ v.third ∷ v.fourth ∷ []
+-- each operand is a number of at most eight bytes
+abbrev pub Narrow : List CodeOperand → Type 0
+Narrow os = Every (λ o. o.width ≤ 8) os
 
--- the widths that the code reads and writes
-pub data Width : ℕ → Type 0 where
-  none : Width 0
-  word : Width 2
-  long : Width 4
-  quad : Width 8
-
-abbrev pub Widths : CodeRow → Type 0
-Widths r = Width r.first.width × Width r.second.width × Width r.third.width × Width r.fourth.width
+abbrev pub width_at : CodeRow → ℕ → ℕ
+width_at r i = (get_or r.operands i absent).width
 
 -- each value fits its width
-abbrev pub FitsCode : CodeRow → Operands → Type 0
+abbrev pub FitsCode : CodeRow → List ℕ → Type 0
 FitsCode r v =
-    (v.first < 256 ^ r.first.width)
-    × (v.second < 256 ^ r.second.width)
-    × (v.third < 256 ^ r.third.width)
-    × (v.fourth < 256 ^ r.fourth.width)
+    (get_or v 0 0 < 256 ^ width_at r 0)
+    × (get_or v 1 0 < 256 ^ width_at r 1)
+    × (get_or v 2 0 < 256 ^ width_at r 2)
+    × (get_or v 3 0 < 256 ^ width_at r 3)
 
 -- the values that some bytes begin with
-abbrev pub values_in : CodeRow → List ℕ → Operands
-values_in r s =
-    record {
-      first = number (take r.first.width (drop 0 s));
-      second = number (take r.second.width (drop r.first.width s));
-      third = number (take r.third.width (drop (r.first.width + r.second.width) s));
-      fourth = number (take r.fourth.width (drop (r.first.width + r.second.width + r.third.width) s));
-    }
+abbrev pub values_in : List CodeOperand → List ℕ → List ℕ
+values_in [] s = []
+values_in (o ∷ os) s = number (take o.width s) ∷ values_in os (drop o.width s)
 
 -- a value is in the range of the code's operand
 abbrev pub in_range_code : CodeOperand → ℕ → Bool
 in_range_code o v = cond o.text (printable (digits o.width v)) (between o.least o.most v)
 
-abbrev pub ranges_hold_code : CodeRow → Operands → Bool
-ranges_hold_code r v =
-    in_range_code r.first v.first
-    && (in_range_code r.second v.second
-    && (in_range_code r.third v.third && in_range_code r.fourth v.fourth))
+abbrev pub ranges_hold_code : List CodeOperand → List ℕ → Bool
+ranges_hold_code [] vs = true
+ranges_hold_code (o ∷ os) [] = true
+ranges_hold_code (o ∷ os) (v ∷ vs) = in_range_code o v && ranges_hold_code os vs

@@ -10,4 +10,4 @@ returns-then-number-eq0 c = simp (c.after.ensures, ← c.cause-number.ensures, c
 
 pub returns-else-number-eq0 : goal.returns-else-number-eq0
 unfolding admit_of
-returns-else-number-eq0 c = simp (← c.cause-number.ensures, ne_eqb _ _ c.if-number-eq0.false)
+returns-else-number-eq0 c = simp (← c.cause-number.ensures, ne_eqb _ _ c.if-number-eq0.false, c.refuse.ensures)

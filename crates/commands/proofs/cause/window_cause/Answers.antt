@@ -12,16 +12,16 @@ use Rattle.commands.specs.declared.header.Window.{Window}
 use Rattle.commands.specs.declared.header.Header.{Header}
 use Rattle.commands.specs.declared.command.Command.{Command}
 use Rattle.commands.specs.declared.row.TableRow.{TableRow as CodeRow}
-use Rattle.commands.specs.declared.row.WindowStart.TheVariants.{NoWindow, From}
+use Rattle.std.specs.Prelude.{Some, None}
 use Rattle.commands.proofs.cause.window_cause.Goals as goal
 
 -- the command's row has the window's start that the code's has
 module _ (h : Header) (c : Command) (row : CodeRow) (is_row : row ≡ code_row (row_of (command_byte_of c))) where
-  none : row.window ≡ NoWindow → 0 ≡ window_cause_of h c
+  none : row.window ≡ None → 0 ≡ window_cause_of h c
   unfolding window_cause_of
   none e = rw (sym (ap (λ (r : CodeRow). r.window) is_row) ∙ e)
 
-  module _ (least : ℕ) (stated : row.window ≡ From least) (w : Window) (is_window : w ≡ window_of (operands_of c)) where
+  module _ (least : ℕ) (stated : row.window ≡ Some least) (w : Window) (is_window : w ≡ window_of (operands_of c)) where
     past_edges : edges_within least w ≡ false → 5 ≡ window_cause_of h c
     unfolding window_cause_of
     past_edges e = rw (sym (ap (λ (r : CodeRow). r.window) is_row) ∙ stated, rw is_window at e)
@@ -34,20 +34,20 @@ module _ (h : Header) (c : Command) (row : CodeRow) (is_row : row ≡ code_row (
     unfolding window_cause_of
     clear e f = rw (sym (ap (λ (r : CodeRow). r.window) is_row) ∙ stated, rw is_window at e, rw is_window at f)
 
-pub returns-in-NoWindow : goal.returns-in-NoWindow
-returns-in-NoWindow c = none _ _ _ (rw c.byte_of.ensures at c.row_of-row.ensures) c.in-NoWindow.is
+pub returns-in_default : goal.returns-in_default
+returns-in_default c = none _ _ _ (rw c.byte_of.ensures at c.row_of.ensures) c.in_default.is
 
 pub returns-then-not-edges_within : goal.returns-then-not-edges_within
 returns-then-not-edges_within c =
-    past_edges _ _ _ (rw c.byte_of.ensures at c.row_of-row.ensures) _ c.in-From.is _
+    past_edges _ _ _ (rw c.byte_of.ensures at c.row_of.ensures) _ c.in-Some.is _
     (rw c.operands_of.ensures.0 at c.window-w.ensures) (cc)
 
 pub returns-then-not-apart_from : goal.returns-then-not-apart_from
 returns-then-not-apart_from c =
-    shared _ _ _ (rw c.byte_of.ensures at c.row_of-row.ensures) _ c.in-From.is _
+    shared _ _ _ (rw c.byte_of.ensures at c.row_of.ensures) _ c.in-Some.is _
     (rw c.operands_of.ensures.0 at c.window-w.ensures) (cc) (cc)
 
-pub returns-else-not-apart_from : goal.returns-else-not-apart_from
-returns-else-not-apart_from c =
-    clear _ _ _ (rw c.byte_of.ensures at c.row_of-row.ensures) _ c.in-From.is _
+pub returns : goal.returns
+returns c =
+    clear _ _ _ (rw c.byte_of.ensures at c.row_of.ensures) _ c.in-Some.is _
     (rw c.operands_of.ensures.0 at c.window-w.ensures) (cc) (cc)

@@ -9,16 +9,16 @@ use lib.ListN.{length, get_or, take, drop, length-drop}
 use lib.Seq.{take_all, drop-cons}
 use Rattle.commands.specs.Bytes.{command_of, parse_of}
 use Rattle.commands.specs.Command.{command_with}
-use Rattle.commands.specs.inner.Table.{code_row, code_size, values_in, values_of}
+use Rattle.commands.specs.inner.Table.{code_row, code_size, values_in}
 use Rattle.commands.specs.Rows.{command_rows, row_of}
 use Rattle.commands.specs.declared.command.Command.{Command}
-use Rattle.commands.specs.declared.command.Operands.{Operands}
-use Rattle.commands.specs.declared.parse.ParsedCommand.TheVariants.{Unknown, Cut, Found}
+use Rattle.std.specs.Prelude.{Ok, Err}
+use Rattle.commands.specs.declared.parse.ParseError.TheVariants.{Unknown, Cut}
 use Rattle.commands.specs.declared.row.TableRow.{TableRow as CodeRow}
-use Rattle.commands.proofs.Table.{row_sizes, row_small, row_widths, row_values}
+use Rattle.commands.proofs.Table.{row_sizes, row_small, row_narrow, row_values}
 use Rattle.commands.proofs.parse.parse.Goals as goal
 
-nothing_left : (s : List ℕ) → length s ≡ 0 → Cut ≡ parse_of s
+nothing_left : (s : List ℕ) → length s ≡ 0 → Err Cut ≡ parse_of s
 unfolding parse_of
 nothing_left s e = ap parse_of (take_all 0 s (omega arith))
 
@@ -27,13 +27,13 @@ module _ (s : List ℕ) (left : 0 < length s) where
   abbrev byte : ℕ
   byte = get_or s 0 0
 
-  unknown : length command_rows ≤ byte → Unknown ≡ parse_of s
+  unknown : length command_rows ≤ byte → Err Unknown ≡ parse_of s
   unfolding parse_of
   unknown h = sym (ap parse_of (drop-cons s 0 0 left) ∙ simp (le-ltb byte (length command_rows) h))
 
   -- it has this row
   module _ (known : byte < length command_rows) (row : CodeRow) (is_row : row ≡ code_row (row_of byte)) where
-    cut : length s - 1 < code_size row → Cut ≡ parse_of s
+    cut : length s - 1 < code_size row.operands → Err Cut ≡ parse_of s
     unfolding parse_of
     cut h =
         sym (
@@ -46,12 +46,12 @@ module _ (s : List ℕ) (left : 0 < length s) where
         ))
 
     -- and its operands are those that the part after it begins with
-    found : code_size row ≤ length s - 1 → (v : Operands) → v ≡ values_in row (drop 1 s) → (c : Command)
-        → c ≡ command_with byte (values_of v) → Found c ≡ parse_of s
+    found : code_size row.operands ≤ length s - 1 → (v : List ℕ) → v ≡ values_in row.operands (drop 1 s) → (c : Command)
+        → c ≡ command_with byte v → Ok c ≡ parse_of s
     unfolding parse_of command_of
     found h v e c f =
         let made : c ≡ command_of byte (drop 1 s) =
-        f ∙ ap (λ (v : Operands). command_with byte (values_of v)) (e ∙ row_values byte row is_row (drop 1 s)) in
+        f ∙ ap (command_with byte) (e ∙ row_values byte row is_row (drop 1 s)) in
         sym (
         ap parse_of (drop-cons s 0 0 left)
         ∙ simp (
@@ -78,7 +78,7 @@ size-requires c = row_small _ _ c.row_of-row.ensures
 pub operands_in-requires : goal.operands_in-requires
 operands_in-requires c =
     let e = c.row_of-row.ensures in
-    (row_widths _ _ e, omega (arith, length-drop {A = ℕ}), row_small _ _ e)
+    (row_narrow _ _ e, omega (arith, length-drop {A = ℕ}))
 
 pub returns : goal.returns
 returns c =
