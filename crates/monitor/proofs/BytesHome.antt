@@ -1,6 +1,7 @@
 -- What comes home from registers and a memory comes home from the registers' bytes by C's run; so what the start call
 -- answers with 0 comes home.
 -- Assumes nothing.
+use Rattle.std.specs.Prelude.{Ok, Err}
 use Prim.Native.Nat.{ℕ, ◌-◌, ◌≤◌}
 use mathlib.Core.Path.{◌≡◌, refl, sym, ap}
 use mathlib.Core.Bool.{Bool, true, false, cond}
@@ -18,8 +19,7 @@ use Rattle.stepper.specs.Answer.{home, refused}
 use Rattle.stepper.specs.Run.{AfterRun, run_of}
 use Rattle.stepper.specs.Trace.{total}
 use Rattle.rules.specs.Claim.{WithinNeed, Stops, ran_home}
-use Rattle.verdict.specs.declared.Started.{Started}
-use Rattle.verdict.specs.declared.Started.TheVariants.{At, Refused}
+use Rattle.verdict.specs.Start.{Started}
 use Rattle.verdict.specs.Routine.{AfterStart, start_routine_of, StartCertified}
 use Rattle.verdict.proofs.Home.{started_comes_home}
 use Rattle.verdict.proofs.StartNumbered.{start_numbered}
@@ -105,8 +105,9 @@ module _ (h p : ℕ) (ticket image rs m : List ℕ) (bytes : AllBytes ticket) wh
 
   -- by the answer: 0 is no refusal's number
   home_of : (s : Started) → b.answer ≡ s → Home (of_started s h p rs b.memory)
-  home_of (At q at) e z = (packed_come_home ticket image q at _ (started_comes_home ticket image bytes _ m q at e)).0
-  home_of (Refused r) e z = absurd (omega (arith, z, start_numbered ticket image _ m r e))
+  home_of (Ok s) e z =
+      (packed_come_home ticket image s.registers s.home _ (started_comes_home ticket image bytes _ m s e)).0
+  home_of (Err r) e z = absurd (omega (arith, z, start_numbered ticket image _ m r e))
 
   -- by whether there are as many register bytes as are asked for
   home_sized : (sized : Bool) → Home (cond sized (of_started b.answer h p rs b.memory) (start_call 21 h 0 rs m))

@@ -1,21 +1,17 @@
 -- Two different answers of the verdict leave something different in C, since no refusal is numbered 0: from what a call
 -- leaves the answer is found again.
 -- Assumes nothing.
+use Rattle.std.specs.Prelude.{Ok, Err}
 use Prim.Native.Nat.{ℕ}
 use mathlib.Core.Path.{◌≡◌, refl, sym, ap, ◌∙◌}
 use mathlib.Core.Bool.{cond}
 use mathlib.Core.List.{List}
 use borrow.Author.Tests.{ne_eqb}
 use lib.Dec.{eqb}
-use Rattle.registers.specs.declared.Registers.{Registers}
 use Rattle.answers.specs.declared.Refusal.{Refusal}
-use Rattle.answers.specs.declared.Verdict.{Verdict}
-use Rattle.answers.specs.declared.Verdict.TheVariants.{Accept, Refuse}
-use Rattle.verdict.specs.declared.Certification.{Certification}
-use Rattle.verdict.specs.declared.Certification.TheVariants as Certification
-use Rattle.verdict.specs.Certification.{verdict_in}
-use Rattle.verdict.specs.declared.Started.{Started}
-use Rattle.verdict.specs.declared.Started.TheVariants.{At, Refused}
+use Rattle.answers.specs.Verdict.{Verdict}
+use Rattle.verdict.specs.Certification.{Certification, verdict_in}
+use Rattle.verdict.specs.Start.{Started}
 use Rattle.monitor.specs.RegisterBytes.{unpacked}
 use Rattle.monitor.proofs.RegisterRoundTrip.{unpacked_packed}
 use Rattle.monitor.specs.Slot.{certificate_in}
@@ -27,17 +23,17 @@ abbrev pub Numbered : Refusal → Type 0
 Numbered r = r.number ≡ 0 → ⊥
 
 abbrev pub NumberedStart : Started → Type 0
-NumberedStart (At q home) = Unit
-NumberedStart (Refused r) = Numbered r
+NumberedStart (Ok s) = Unit
+NumberedStart (Err r) = Numbered r
 
 abbrev pub NumberedCertification : Certification → Type 0
-NumberedCertification (Certification.Granted c) = Unit
-NumberedCertification (Certification.Refused r) = Numbered r
+NumberedCertification (Ok c) = Unit
+NumberedCertification (Err r) = Numbered r
 
 -- the home of a certification, or the one that was lent
 abbrev pub home_in : ℕ → Certification → ℕ
-home_in h (Certification.Granted k) = k.header.home
-home_in h (Certification.Refused r) = h
+home_in h (Ok k) = k.header.home
+home_in h (Err r) = h
 
 abbrev refusal_from : (number place : ℕ) → Refusal
 refusal_from n p = record { number = n; place = p }
@@ -46,31 +42,31 @@ abbrev verdict_from : VerdictCall → Verdict
 verdict_from j =
     cond
     (eqb j.outcome 0)
-    (Accept j.entry (record { 0 = j.cost }) (record { 0 = j.stack }))
-    (Refuse (refusal_from j.outcome j.place))
+    (Ok (record { entry = j.entry; cost = record { 0 = j.cost }; stack = record { 0 = j.stack } }))
+    (Err (refusal_from j.outcome j.place))
 
 abbrev start_from : StartCall → Started
 start_from b =
     cond
     (eqb b.outcome 0)
-    (At (unpacked b.registers) b.home)
-    (Refused (refusal_from b.outcome b.place))
+    (Ok (record { registers = unpacked b.registers; home = b.home }))
+    (Err (refusal_from b.outcome b.place))
 
 abbrev certification_from : CertifyCall → Certification
 certification_from f =
     cond
     (eqb f.outcome 0)
-    (Certification.Granted (certificate_in f.slot))
-    (Certification.Refused (refusal_from f.outcome f.place))
+    (Ok (certificate_in f.slot))
+    (Err (refusal_from f.outcome f.place))
 
 module _ (e h c s p : ℕ) where
   verdict_back : (a : Certification) → NumberedCertification a → verdict_from (of_judged a e h c s p) ≡ verdict_in a
-  verdict_back (Certification.Granted k) n = refl
-  verdict_back (Certification.Refused r) n = rw (ne_eqb _ _ n)
+  verdict_back (Ok k) n = refl
+  verdict_back (Err r) n = rw (ne_eqb _ _ n)
 
   home_back : (a : Certification) → (of_judged a e h c s p).home ≡ home_in h a
-  home_back (Certification.Granted k) = refl
-  home_back (Certification.Refused r) = refl
+  home_back (Ok k) = refl
+  home_back (Err r) = refl
 
   -- the verdicts that two certifications stand for, and their homes
   pub verdicts_apart : (a b : Certification) → NumberedCertification a → NumberedCertification b
@@ -82,8 +78,8 @@ module _ (e h c s p : ℕ) where
 
 module _ (h p : ℕ) (rs m : List ℕ) where
   start_back : (a : Started) → NumberedStart a → start_from (of_started a h p rs m) ≡ a
-  start_back (At q home) n = ap (λ (r : Registers). At r home) (unpacked_packed q)
-  start_back (Refused r) n = rw (ne_eqb _ _ n)
+  start_back (Ok s) n = rw (unpacked_packed s.registers)
+  start_back (Err r) n = rw (ne_eqb _ _ n)
 
   pub starts_apart : (a b : Started) → NumberedStart a → NumberedStart b
       → of_started a h p rs m ≡ of_started b h p rs m → a ≡ b
@@ -92,8 +88,8 @@ module _ (h p : ℕ) (rs m : List ℕ) where
 module _ (p : ℕ) (slot : List ℕ) where
   certification_back : (a : Certification) → NumberedCertification a → certification_from (of_certification a p slot)
       ≡ a
-  certification_back (Certification.Granted c) n = rw (certificate_in_slot c)
-  certification_back (Certification.Refused r) n = rw (ne_eqb _ _ n)
+  certification_back (Ok c) n = rw (certificate_in_slot c)
+  certification_back (Err r) n = rw (ne_eqb _ _ n)
 
   pub certifications_apart : (a b : Certification) → NumberedCertification a → NumberedCertification b
       → of_certification a p slot ≡ of_certification b p slot → a ≡ b

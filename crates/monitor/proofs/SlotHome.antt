@@ -1,5 +1,6 @@
 -- Every start from a slot that was filled comes home.
 -- Assumes nothing.
+use Rattle.std.specs.Prelude.{Ok, Err}
 use Prim.Native.Nat.{ℕ}
 use mathlib.Core.Path.{◌≡◌, refl, ◌∙◌}
 use mathlib.Core.Bool.{Bool, true, false, cond}
@@ -11,9 +12,7 @@ use lib.ListN.{length}
 use Rattle.registers.specs.Registers.{data_of}
 use Rattle.commands.specs.Number.{AllBytes}
 use Rattle.verdict.specs.declared.Certificate.{Certificate}
-use Rattle.verdict.specs.declared.Certification.{Certification}
-use Rattle.verdict.specs.declared.Certification.TheVariants.{Granted, Refused}
-use Rattle.verdict.specs.Certification.{certification_of}
+use Rattle.verdict.specs.Certification.{Certification, certification_of}
 use Rattle.verdict.specs.Start.{loaded_of}
 use Rattle.verdict.proofs.Home.{certificate_comes_home}
 use Rattle.verdict.proofs.StartNumbered.{certification_numbered}
@@ -27,7 +26,7 @@ use Rattle.monitor.proofs.BytesHome.{packed_come_home}
 
 module _ (ticket image : List ℕ) (bytes : AllBytes ticket) where
   -- the slot's header is the certified one, and a start by it comes home
-  slot_comes_home : (c : Certificate) → certification_of ticket image ≡ Granted c
+  slot_comes_home : (c : Certificate) → certification_of ticket image ≡ Ok c
       → SlotComesHome ticket image (slot_of c)
   unfolding start_slot_of
   slot_comes_home c e h p rs m sized whole =
@@ -44,8 +43,8 @@ module _ (ticket image : List ℕ) (bytes : AllBytes ticket) where
 
     -- by the certification: 0 is no refusal's number
     home_of : (a : Certification) → certification_of ticket image ≡ a → Home (of_certification a p slot)
-    home_of (Granted c) e z = slot_comes_home c e
-    home_of (Refused r) e z = absurd (omega (arith, z, certification_numbered ticket image r e))
+    home_of (Ok c) e z = slot_comes_home c e
+    home_of (Err r) e z = absurd (omega (arith, z, certification_numbered ticket image r e))
 
     -- by whether there are as many slot bytes as are asked for
     home_sized : (sized : Bool) → Home (cond sized (of_certification (certification_of ticket image) p slot)

@@ -2,14 +2,10 @@
 -- machine": the press monitor is written in C). What a call does not answer stays as it was lent (demand 1: a refusal
 -- alters no lent byte).
 -- Assumes nothing.
-use Rattle.std.specs.Prelude.{ℕ, cond, ◌&&◌, List, eqb, length}
+use Rattle.std.specs.Prelude.{ℕ, cond, ◌&&◌, List, eqb, length, Ok, Err}
 use Rattle.registers.specs.Registers.{data_of}
-use Rattle.verdict.specs.declared.Certification.{Certification}
-use Rattle.verdict.specs.declared.Certification.TheVariants as Certification
-use Rattle.verdict.specs.declared.Started.{Started}
-use Rattle.verdict.specs.declared.Started.TheVariants.{At, Refused}
-use Rattle.verdict.specs.Certification.{certification_of}
-use Rattle.verdict.specs.Start.{started_of, loaded_of}
+use Rattle.verdict.specs.Certification.{Certification, certification_of}
+use Rattle.verdict.specs.Start.{Started, started_of, loaded_of}
 use Rattle.verdict.specs.Routine.{start_routine_of}
 use Rattle.monitor.specs.RegisterBytes.{register_size, packed, unpacked}
 use Rattle.monitor.specs.Slot.{slot_size, slot_of, header_in}
@@ -29,9 +25,9 @@ verdict_call n e h c s p = record { outcome = n; entry = e; home = h; cost = c; 
 -- 0 for acceptance, with the ticket's entry and home and the certified figures; or the refusal's number, which is never
 -- 0. e, h, c, s and p are the numbers as they were lent
 abbrev pub of_judged : Certification → (e h c s p : ℕ) → VerdictCall
-of_judged (Certification.Granted k) e h c s p =
+of_judged (Ok k) e h c s p =
     verdict_call 0 k.header.entry k.header.home k.cost.0 k.stack.0 p
-of_judged (Certification.Refused r) e h c s p = verdict_call r.number e h c s r.place
+of_judged (Err r) e h c s p = verdict_call r.number e h c s r.place
 
 -- a start's call: its outcome, and the numbers and the bytes that it was lent, afterwards
 pub record StartCall : Type 0 where
@@ -46,8 +42,8 @@ start_call n h p rs m = record { outcome = n; home = h; place = p; registers = r
 
 -- h, p and rs are home, the place and the register bytes before it, m the memory after it
 abbrev pub of_started : Started → (h p : ℕ) (rs m : List ℕ) → StartCall
-of_started (At q home) h p rs m = start_call 0 home p (packed q) m
-of_started (Refused r) h p rs m = start_call r.number h r.place rs m
+of_started (Ok s) h p rs m = start_call 0 s.home p (packed s.registers) m
+of_started (Err r) h p rs m = start_call r.number h r.place rs m
 
 -- 21 at 0 is checked first, of the registers and of the memory; then what the verdict refuses is refused
 unfoldable pub start_bytes_of : (home place : ℕ) (ticket image registers memory : List ℕ) → StartCall
@@ -65,8 +61,8 @@ abbrev pub certify_call : (outcome place : ℕ) (slot : List ℕ) → CertifyCal
 certify_call n p bs = record { outcome = n; place = p; slot = bs }
 
 abbrev pub of_certification : Certification → (p : ℕ) (slot : List ℕ) → CertifyCall
-of_certification (Certification.Granted c) p bs = certify_call 0 p (slot_of c)
-of_certification (Certification.Refused r) p bs = certify_call r.number r.place bs
+of_certification (Ok c) p bs = certify_call 0 p (slot_of c)
+of_certification (Err r) p bs = certify_call r.number r.place bs
 
 -- 21 at 0 is checked first, of the slot; then what the verdict refuses is refused
 unfoldable pub certify_bytes_of : (place : ℕ) (ticket image slot : List ℕ) → CertifyCall

@@ -12,9 +12,9 @@ ghost use Rattle.monitor.specs.RoutineCalls.{verdict_call, of_judged, start_call
 ghost use Rattle.monitor.specs.RoutineCalls.{certify_bytes_of, start_slot_of};
 ghost use Rattle.monitor.specs.Home.{StartedBytesComeHome, FilledSlotComesHome, StartsFromFilledSlot};
 
-use crate::register_bytes::{REGISTER_BYTES, pack};
+use crate::register_bytes::pack;
 use registers::Registers;
-use verdict::{Certification, certify};
+use verdict::certify;
 
 mod big_endian; // numbers in lent bytes, high byte first
 mod register_bytes; // the registers as 13 bytes
@@ -27,10 +27,10 @@ pub extern "C" fn jugrond_reset(regs: &mut [u8]) -> u32
     ensures { (result ≡ (reset_bytes_of regs.old).outcome)
         × (regs.new ≡ (reset_bytes_of regs.old).registers) }
 {
-    if regs.len() != REGISTER_BYTES {
+    let Some(bytes) = regs.as_mut_array() else {
         return stepper_calls::BAD_LENGTH;
-    }
-    pack(Registers::reset(), regs);
+    };
+    pack(Registers::reset(), bytes);
     stepper_calls::DONE
 }
 
@@ -89,17 +89,14 @@ pub extern "C" fn jugrond_verdict(
         × CertificateComesHome ticket.now image.now }
 {
     match certify(ticket, image) {
-        Certification::Granted(c) => {
+        Ok(c) => {
             *entry = c.header.entry;
             *home = c.header.home;
             *cost = c.cost.0;
             *stack = c.stack.0;
             stepper_calls::DONE
         }
-        Certification::Refused(x) => {
-            *place = x.place;
-            x.number as u32
-        }
+        Err(x) => routine_calls::refused(x, place),
     }
 }
 

@@ -1,15 +1,15 @@
 // The register record as the 13 bytes that the monitor lends: A, B, X, Y, SP, PC, flags, the lowest SP. An inner module
-// of the C calls: where a length is required, they have tested it.
-ghost use Rattle.std.specs.Prelude.{◌≡◌, length};
-ghost use Rattle.monitor.specs.RegisterBytes.{register_size, packed, unpacked};
+// of the C calls, which have tested the length.
+ghost use Rattle.std.specs.Prelude.{◌≡◌};
+ghost use Rattle.monitor.specs.RegisterBytes.{packed, unpacked};
 
 use crate::big_endian::{put_word, word_in};
 use registers::Registers;
 
-pub const REGISTER_BYTES: usize = 13;
+pub type RegisterBytes = [u8; 13];
 
-pub fn unpack(regs: &[u8]) -> Registers
-    requires { length regs.now ≡ register_size }
+// No From: neither type is this crate's.
+pub fn unpack(regs: &RegisterBytes) -> Registers
     ensures { result ≡ unpacked regs.now }
 {
     Registers {
@@ -24,8 +24,7 @@ pub fn unpack(regs: &[u8]) -> Registers
     }
 }
 
-pub fn pack(r: Registers, regs: &mut [u8])
-    requires { length regs.old ≡ register_size }
+pub fn pack(r: Registers, regs: &mut RegisterBytes)
     ensures { regs.new ≡ packed r }
 {
     put_word(regs, 2, r.x);

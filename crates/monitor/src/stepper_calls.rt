@@ -1,13 +1,13 @@
 // A step and a run on register bytes, and the numbers that a call answers.
-ghost use Rattle.std.specs.Prelude.{◌≡◌, List, ℕ, ◌<◌, length};
-ghost use Rattle.monitor.specs.RegisterBytes.{register_size, packed};
+ghost use Rattle.std.specs.Prelude.{◌≡◌, List, ℕ, ◌<◌};
+ghost use Rattle.monitor.specs.RegisterBytes.{packed};
 ghost use Rattle.monitor.specs.StepperCalls.{stepper_call, step_bytes_of, run_bytes_of};
 ghost use Rattle.monitor.specs.inner.Replies.{stepper_replied};
 
-use crate::register_bytes::{REGISTER_BYTES, pack, unpack};
+use crate::register_bytes::{RegisterBytes, pack, unpack};
 use answers::Refusal;
 use registers::{Cycles, Registers};
-use stepper::answer::{Ran, Stepped};
+use stepper::answer::Ran;
 use stepper::environment::Environment;
 
 // A reset or a step is done, or a run is home.
@@ -43,29 +43,25 @@ fn address_of(x: Refusal) -> u16
 }
 
 // The registers reached are stored.
-fn reached(q: Registers, regs: &mut [u8], a: StepperReply) -> StepperReply
-    requires { length regs.old ≡ register_size }
+fn reached(q: Registers, regs: &mut RegisterBytes, a: StepperReply) -> StepperReply
     ensures { (regs.new ≡ packed q) × (result ≡ a) }
 {
     pack(q, regs);
     a
 }
 
-// A refused step stores nothing.
+// A refused step stores nothing. The step itself answers 21 at 0 of a memory of another length.
 pub fn step_on(regs: &mut [u8], mem: &mut [u8]) -> StepperReply
     ensures { (c p : ℕ) → stepper_replied result c p regs.new mem.new
         ≡ step_bytes_of c p regs.old mem.old }
 {
-    if regs.len() != REGISTER_BYTES {
+    let Some(bytes) = regs.as_mut_array() else {
         return StepperReply::Refused(BAD_LENGTH, 0);
-    }
-    if mem.len() != 65536 {
-        return StepperReply::Refused(BAD_LENGTH, 0);
-    }
-    let r = unpack(regs);
+    };
+    let r = unpack(bytes);
     match stepper::step(r, mem) {
-        Stepped::Done(q, k) => reached(q, regs, StepperReply::Done(DONE, k)),
-        Stepped::Refused(x) => StepperReply::Refused(x.number as u32, address_of(x)),
+        Ok(q) => reached(q.registers, bytes, StepperReply::Done(DONE, q.cycles)),
+        Err(x) => StepperReply::Refused(x.number as u32, address_of(x)),
     }
 }
 
@@ -74,24 +70,23 @@ pub fn run_on(regs: &mut [u8], mem: &mut [u8], home: u16, budget: u32) -> Steppe
     ensures { (c p : ℕ) → stepper_replied result c p regs.new mem.new
         ≡ run_bytes_of c p regs.old mem.old home budget }
 {
-    if regs.len() != REGISTER_BYTES {
+    let Some(bytes) = regs.as_mut_array() else {
         return StepperReply::Refused(BAD_LENGTH, 0);
-    }
+    };
     if mem.len() != 65536 {
         return StepperReply::Refused(BAD_LENGTH, 0); // before home is looked at
     }
-    let r = unpack(regs);
-    let env = Environment { home };
-    match stepper::run(r, mem, env, budget) {
-        Ran::Home(q, k) => reached(q, regs, StepperReply::Done(DONE, k)),
-        Ran::Spent(q, k) => reached(q, regs, StepperReply::Done(SPENT, k)),
-        Ran::Refused(q, k, x) => {
+    let r = unpack(bytes);
+    match stepper::run(r, mem, Environment { home }, budget) {
+        Ran::Home(q) => reached(q.registers, bytes, StepperReply::Done(DONE, q.cycles)),
+        Ran::Spent(q) => reached(q.registers, bytes, StepperReply::Done(SPENT, q.cycles)),
+        Ran::Refused(q, x) => {
             let s = StoppedRun {
                 number: x.number as u32,
-                cycles: k,
+                cycles: q.cycles,
                 place: address_of(x),
             };
-            reached(q, regs, StepperReply::Stopped(s))
+            reached(q.registers, bytes, StepperReply::Stopped(s))
         }
     }
 }

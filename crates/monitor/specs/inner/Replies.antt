@@ -1,12 +1,9 @@
 -- What the code's replies come to: the outcome's number, the numbers answered beside it, the place of a refusal.
 -- Assumes nothing.
-use Rattle.std.specs.Prelude.{ℕ, List}
+use Rattle.std.specs.Prelude.{ℕ, List, Result, Ok, Err}
+use Rattle.answers.specs.declared.Refusal.{Refusal}
 use Rattle.monitor.specs.declared.stepper_calls.StepperReply.{StepperReply}
 use Rattle.monitor.specs.declared.stepper_calls.StepperReply.TheVariants as Stepper
-use Rattle.monitor.specs.declared.routine_calls.RoutineReply.{RoutineReply}
-use Rattle.monitor.specs.declared.routine_calls.RoutineReply.TheVariants.{Done, Refused}
-use Rattle.monitor.specs.declared.routine_calls.StartReply.{StartReply}
-use Rattle.monitor.specs.declared.routine_calls.StartReply.TheVariants.{Started, NotStarted}
 use Rattle.monitor.specs.StepperCalls.{StepperCall, stepper_call}
 use Rattle.monitor.specs.RoutineCalls.{StartCall, start_call}
 
@@ -16,16 +13,17 @@ stepper_replied (Stepper.Done n k) c p rs m = stepper_call n k.0 p rs m
 stepper_replied (Stepper.Stopped s) c p rs m = stepper_call s.number s.cycles.0 s.place rs m
 stepper_replied (Stepper.Refused n at) c p rs m = stepper_call n c at rs m
 
--- of a start: h and p are home and the place as they were lent
-abbrev pub start_replied : StartReply → (home place : ℕ) (registers memory : List ℕ) → StartCall
-start_replied (Started home) h p rs m = start_call 0 home p rs m
-start_replied (NotStarted r) h p rs m = start_call r.number h r.place rs m
+-- of a start, which answers home: h and p are home and the place as they were lent
+abbrev pub start_replied : Result ℕ Refusal → (home place : ℕ) (registers memory : List ℕ) → StartCall
+start_replied (Ok home) h p rs m = start_call 0 home p rs m
+start_replied (Err r) h p rs m = start_call r.number h r.place rs m
 
-abbrev pub reply_number : RoutineReply → ℕ
-reply_number Done = 0
-reply_number (Refused r) = r.number
+-- of a call that answers nothing beside a refusal
+abbrev pub reply_number : Result Unit Refusal → ℕ
+reply_number (Ok t) = 0
+reply_number (Err r) = r.number
 
 -- p is the place as it was lent
-abbrev pub reply_place : RoutineReply → (p : ℕ) → ℕ
-reply_place Done p = p
-reply_place (Refused r) p = r.place
+abbrev pub reply_place : Result Unit Refusal → (p : ℕ) → ℕ
+reply_place (Ok t) p = p
+reply_place (Err r) p = r.place
