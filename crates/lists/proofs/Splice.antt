@@ -7,6 +7,7 @@ use native.Mathlib.Omega.{arith}
 use mathlib.Core.List.{List, [], ◌++◌, append_assoc}
 use lib.ListN.{length, take, drop, length-append, take-append-drop}
 use lib.Seq.{take_at, drop_at, drop-drop, length-take-le, paste}
+use borrow.Rule.Slice.PartMut.{put_mid}
 use Rattle.lists.specs.Splice.{spliced}
 
 -- a copy of the first n bytes, if these are a
@@ -14,6 +15,12 @@ pub paste_spliced : (old : List ℕ) (at : ℕ) (a b : List ℕ) (n : ℕ) → l
     paste old at (a ++ b) n ≡ spliced old at a
 unfolding spliced
 paste_spliced old at a b n e = rw (take_at a b n e, append_assoc, e)
+
+-- a part written over, of as many bytes
+pub put_spliced : (old : List ℕ) (at k : ℕ) (s new : List ℕ) → new ≡ s → k ≡ length s →
+    put_mid at k old new ≡ spliced old at s
+unfolding spliced
+put_spliced old at k s new e n = rw (e, n, drop-drop)
 
 spliced_next : (old : List ℕ) (at : ℕ) (a b : List ℕ) (n : ℕ) → n ≡ at + length a → n + length b ≤ length old →
     spliced (spliced old at a) n b ≡ spliced old at (a ++ b)

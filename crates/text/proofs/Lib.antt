@@ -4,3 +4,4 @@ mod ListingColumns
 pub mod Listed
 mod VerdictParts
 pub mod VerdictsApart
+mod Written

@@ -3,15 +3,15 @@
 use mathlib.Core.Path.{◌≡◌, refl}
 use mathlib.Core.Bool.{Bool, true, false, cond}
 use mathlib.Core.Logic.{◌⊎◌, inl, inr}
-use Prim.Native.Nat.{ℕ, ◌<◌}
+use Prim.Native.Nat.{ℕ}
 use lib.Dec.{eqb, ltb}
 use borrow.Author.Tests.{eq-eqb, ne_eqb}
-use Rattle.opcodes.proofs.Rule.{entry_word}
-use Rattle.opcodes.proofs.Says.{Said, there_says, nowhere_says, entry}
+use Rattle.opcodes.proofs.Says.{Said, there_says, nowhere_says}
 use Rattle.opcodes.specs.Tables.{cost_at}
 use Rattle.opcodes.specs.Decode.{Bytes, place_in, opcode_size}
 use Rattle.opcodes.specs.inner.Lookup.{found_of}
-use Rattle.opcodes.specs.declared.lookup.Found.TheVariants as Found
+use Rattle.opcodes.specs.declared.lookup.Found.{Found}
+use Rattle.std.specs.Prelude.{Some, None}
 use Rattle.text.specs.declared.listing.Listing.{Listing}
 use Rattle.text.specs.Listing.{bytes_text, no_listing, listing_at, listing_of, five}
 
@@ -25,21 +25,18 @@ one_or_two p = by (ltb p 256)
     by false = inr refl
 
 module _ (f : Bytes) where
-  pub nowhere : found_of (f 0) (f 1) ≡ Found.Nothing → (pc : ℕ) → listing_of pc f ≡ no_listing f
+  pub nowhere : found_of (f 0) (f 1) ≡ None → (pc : ℕ) → listing_of pc f ≡ no_listing f
   unfolding listing_of
   nowhere h pc = simp (eq-eqb _ _ (nowhere_says _ _ h))
 
-  module _ {p s e : ℕ} (h : found_of (f 0) (f 1) ≡ Found.At p s e) where
-    says : Said (f 0) (f 1) p s e
-    says = there_says _ _ p s e h
+  module _ {o : Found} (h : found_of (f 0) (f 1) ≡ Some o) where
+    says : Said (f 0) (f 1) o
+    says = there_says _ _ o h
 
-    pub narrow : e < 65536
-    narrow = rw (entry _ _ h) (entry_word p)
+    pub size : (o.size ≡ 1) ⊎ (o.size ≡ 2)
+    size = rw (← says.1) (one_or_two o.place)
 
-    pub size : (s ≡ 1) ⊎ (s ≡ 2)
-    size = rw (← says.1) (one_or_two p)
-
-    pub there : (pc : ℕ) → listing_of pc f ≡ listing_at pc p s f
+    pub there : (pc : ℕ) → listing_of pc f ≡ listing_at pc o.place o.size f
     unfolding listing_of
     there pc = simp (says.0, ne_eqb _ _ says.3, says.1)
 

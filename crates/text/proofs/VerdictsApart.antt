@@ -7,8 +7,8 @@ use mathlib.Core.List.{List, [], ◌++◌}
 use native.Mathlib.Omega.{arith}
 use lib.Dec.{eqb}
 use lib.ListN.{get_or, drop}
-use Rattle.answers.specs.declared.Verdict.{Verdict}
-use Rattle.answers.specs.declared.Verdict.TheVariants.{Accept, Refuse}
+use Rattle.std.specs.Prelude.{Ok, Err}
+use Rattle.answers.specs.Verdict.{Verdict}
 use Rattle.text.specs.Number.{decimal_of}
 use Rattle.text.proofs.Spelled.{hex_from, hex_back, hex_after, number_from, after_number, decimal_back}
 use Rattle.text.proofs.Spelled.{decimal_after}
@@ -16,16 +16,20 @@ use Rattle.text.specs.Verdict.{end, accept_line, refuse_line, line_of}
 
 -- all numbers of a verdict are of 32 bits at most, as in every value of the code's types
 abbrev pub Narrow : Verdict → Type 0
-Narrow (Accept e c s) = (c.0 < 4294967296) × (s.0 < 4294967296)
-Narrow (Refuse r) = (r.number < 4294967296) × (r.place < 4294967296)
+Narrow (Ok a) = (a.cost.0 < 4294967296) × (a.stack.0 < 4294967296)
+Narrow (Err r) = (r.number < 4294967296) × (r.place < 4294967296)
 
 abbrev accept_from : List ℕ → Verdict
 accept_from t =
     let d = drop 1 (drop 4 t) in
-    Accept (hex_from t) (record { 0 = number_from 0 d }) (record { 0 = number_from 0 (after_number d) })
+    Ok (record {
+      entry = hex_from t;
+      cost = record { 0 = number_from 0 d };
+      stack = record { 0 = number_from 0 (after_number d) };
+    })
 
 abbrev refuse_from : List ℕ → Verdict
-refuse_from t = Refuse (record { number = number_from 0 t; place = number_from 0 (after_number t) })
+refuse_from t = Err (record { number = number_from 0 t; place = number_from 0 (after_number t) })
 
 -- by the first letter
 abbrev verdict_from : List ℕ → Verdict
@@ -33,12 +37,12 @@ verdict_from t = cond (eqb (get_or t 0 0) 65) (accept_from (drop 7 t)) (refuse_f
 
 verdict_back : (v : Verdict) → Narrow v → verdict_from (line_of v) ≡ v
 unfolding accept_line refuse_line
-verdict_back (Accept e c s) h =
-    let last = decimal_of s.0 ++ end in
-    let cost = decimal_back c.0 32 last (omega arith) (omega (arith, h.0)) in
-    let stack = decimal_back s.0 10 [] (omega arith) (omega (arith, h.1)) in
-    simp (hex_back e, hex_after e, cost, decimal_after c.0 32 last (omega arith), stack)
-verdict_back (Refuse r) h =
+verdict_back (Ok a) h =
+    let last = decimal_of a.stack.0 ++ end in
+    let cost = decimal_back a.cost.0 32 last (omega arith) (omega (arith, h.0)) in
+    let stack = decimal_back a.stack.0 10 [] (omega arith) (omega (arith, h.1)) in
+    simp (hex_back a.entry, hex_after a.entry, cost, decimal_after a.cost.0 32 last (omega arith), stack)
+verdict_back (Err r) h =
     let last = decimal_of r.place ++ end in
     let number = decimal_back r.number 32 last (omega arith) (omega (arith, h.0)) in
     let place = decimal_back r.place 10 [] (omega arith) (omega (arith, h.1)) in

@@ -53,16 +53,11 @@ impl Line {
         requires { length self + 41 ≤ 256 }
         ensures { (result ≡ self ++ registers_text r) × (length result ≡ length self + 41) }
     {
-        self.with_text(b" A=")
-            .with_text(&hex2(r.a))
-            .with_text(b" B=")
-            .with_text(&hex2(r.b))
-            .with_text(b" X=")
-            .with_text(&hex4(r.x))
-            .with_text(b" Y=")
-            .with_text(&hex4(r.y))
-            .with_text(b" SP=")
-            .with_text(&hex4(r.sp))
+        self.with_named(b" A=", &hex2(r.a))
+            .with_named(b" B=", &hex2(r.b))
+            .with_named(b" X=", &hex4(r.x))
+            .with_named(b" Y=", &hex4(r.y))
+            .with_named(b" SP=", &hex4(r.sp))
             .with_text(b" ")
             .with_text(&flags(r.flags))
     }

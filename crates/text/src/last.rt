@@ -26,10 +26,8 @@ fn line(label: &[u8], t: Totals) -> Line
     Line::empty()
         .with_pair(label, t.cycles.0, t.allowed.0)
         .with_pair(b" stack=", u32::from(t.stack.0), u32::from(t.certified.0))
-        .with_text(b" lowest=")
-        .with_text(&hex4(t.lowest))
-        .with_text(b" home=")
-        .with_text(&hex4(t.home))
+        .with_named(b" lowest=", &hex4(t.lowest))
+        .with_named(b" home=", &hex4(t.home))
         .with_text(b"\n")
 }
 

@@ -32,6 +32,7 @@ impl Line {
         }
     }
 
+    #[tactic(auto, using(crate::proofs::Written::grown))]
     pub fn with_text(mut self, s: &[u8]) -> Line
         requires { length self + length s.now ≤ 256 }
         ensures { result ≡ self ++ s.now }
@@ -42,18 +43,25 @@ impl Line {
     }
 
     // Its decimal digits, without leading zeros: ten at most.
+    #[tactic(auto, using(crate::proofs::Digits::one_digit, crate::proofs::Digits::decimal_next, crate::proofs::Digits::one_more))]
     pub fn with_number(self, n: u32) -> Line
         requires { length self + length (decimal_of n) ≤ 256 }
         ensures { result ≡ self ++ decimal_of n }
     {
-        let front = if n < 10 {
-            self
-        } else {
-            self.with_number(n / 10)
-        };
-        front.with_text(&[b'0' + (n % 10) as u8])
+        if n < 10 {
+            return self.with_text(&[b'0' + n as u8]);
+        }
+        self.with_number(n / 10).with_text(&[b'0' + (n % 10) as u8])
     }
 
+    pub fn with_named(self, name: &[u8], text: &[u8]) -> Line
+        requires { length self + length name.now + length text.now ≤ 256 }
+        ensures { result ≡ self ++ (name.now ++ text.now) }
+    {
+        self.with_text(name).with_text(text)
+    }
+
+    #[tactic(auto, using(crate::proofs::Digits::decimal_most), unfolding(crate::specs::Line::field_text))]
     pub fn with_field(self, label: &[u8], n: u32) -> Line
         requires { length self + length label.now + 10 ≤ 256 }
         ensures { (result ≡ self ++ field_text label.now n)

@@ -4,6 +4,7 @@ ghost use Rattle.lists.specs.Splice.{spliced};
 ghost use Rattle.text.specs.Number.{glyph_of, byte_hex, hex_of};
 
 // Bytes at an offset of the output; the offset after them.
+#[tactic(auto, using(lists::proofs::Splice::put_spliced))]
 pub fn put_text(out: &mut [u8], at: usize, s: &[u8]) -> usize
     requires { at + length s.now ≤ length out.old }
     ensures { (out.new ≡ spliced out.old at s.now)

@@ -62,8 +62,7 @@ impl Line {
         }
         line.with_field(b" least=", v.least)
             .with_field(b" most=", v.most)
-            .with_text(b" lowest=")
-            .with_text(&hex4(v.lowest))
+            .with_named(b" lowest=", &hex4(v.lowest))
     }
 }
 

@@ -7,6 +7,7 @@ use crate::line::Line;
 use crate::number::{hex4, put_text};
 use answers::{Acceptance, Refusal, Verdict};
 
+#[tactic(auto, unfolding(crate::specs::Verdict::accept_line, crate::specs::Line::field_text))]
 fn accepted(a: Acceptance) -> Line
     ensures { result ≡ accept_line a.entry a.cost.0 a.stack.0 }
 {
@@ -18,6 +19,7 @@ fn accepted(a: Acceptance) -> Line
         .with_text(b"\n")
 }
 
+#[tactic(auto, unfolding(crate::specs::Verdict::refuse_line, crate::specs::Line::field_text))]
 fn refused(x: Refusal) -> Line
     ensures { result ≡ refuse_line x.number x.place }
 {
@@ -27,13 +29,19 @@ fn refused(x: Refusal) -> Line
         .with_text(b"\n")
 }
 
+#[tactic(auto, using(crate::proofs::VerdictParts::accept_most, crate::proofs::VerdictParts::refuse_most))]
+fn line(v: Verdict) -> Line
+    ensures { (result ≡ line_of v) × (length result ≤ 64) }
+{
+    match v {
+        Ok(a) => accepted(a),
+        Err(x) => refused(x),
+    }
+}
+
 // How many bytes the line has; it stands at the beginning of the output.
 pub fn put_verdict(v: Verdict, out: &mut [u8; 64]) -> usize
     ensures { (out.new ≡ spliced out.old 0 (line_of v)) × (result ≡ length (line_of v)) × (result ≤ 64) }
 {
-    let line = match v {
-        Ok(a) => accepted(a),
-        Err(x) => refused(x),
-    };
-    put_text(out, 0, line.as_bytes())
+    put_text(out, 0, line(v).as_bytes())
 }
