@@ -1,6 +1,5 @@
 pub mod Order
 pub mod Skipped
-pub mod Missed
 pub mod Every
 pub mod ByRow
 pub mod Rule
