@@ -1,19 +1,15 @@
 -- The bytes that lead to another map have no instruction in the first one, so that the first map may be looked at
 -- first.
 -- Assumes nothing.
-use Rattle.std.specs.Prelude.{Option, Some, None}
 use mathlib.Core.Path.{◌≡◌, refl, sym, ap, ◌∙◌}
 use mathlib.Core.Bool.{Bool, true, false, cond}
-use mathlib.Core.List.{List}
 use Prim.Native.Nat.{ℕ, ◌+◌, ◌<◌, ◌≤◌}
 use native.Mathlib.Omega.{arith}
 use lib.Dec.{eqb, ltb}
-use lib.ListN.{get_or}
 use borrow.Author.Tests.{eqb-true, eq-eqb, ne_eqb, lt-ltb, le-ltb}
 use Rattle.opcodes.specs.Tables.{costs, cost_at}
-use Rattle.opcodes.specs.declared.lookup.Found.{Found}
 use Rattle.opcodes.specs.Decode.{page_of, opcode_place, opcode_size}
-use Rattle.opcodes.specs.inner.Lookup.{found_of}
+use Rattle.opcodes.specs.inner.Lookup.{entry_of, found_of}
 
 pub prefixes_empty : (cost_at 0x18 ≡ 0) × (cost_at 0x1a ≡ 0) × (cost_at 0xcd ≡ 0)
 unfolding costs cost_at
@@ -62,18 +58,13 @@ pub size_most : (p : ℕ) → opcode_size p ≤ 2
 unfolding opcode_size
 size_most p = most (ltb p 256)
 
-pub size_1 : (p : ℕ) → p < 256 → opcode_size p ≡ 1
+size_1 : (p : ℕ) → p < 256 → opcode_size p ≡ 1
 unfolding opcode_size
 size_1 p h = simp (lt-ltb _ _ h)
 
 size_2 : (p : ℕ) → 256 ≤ p → opcode_size p ≡ 2
 unfolding opcode_size
 size_2 p h = simp (le-ltb _ _ h)
-
--- an entry of the code's table
-pub entry : (t : List ℕ) → t ≡ costs → (p : ℕ) → get_or t p 0 ≡ cost_at p
-unfolding cost_at
-entry t e p = ap (λ (x : List ℕ). get_or x p 0) e
 
 module _ (first second : ℕ) where
   pub in_first : page_of first ≡ 0 → opcode_place first second ≡ first
@@ -91,12 +82,10 @@ module _ (first second : ℕ) where
       let far : page_of first ≡ 0 → ⊥ = λ z. n (e ∙ z) in
       (in_other far ∙ ap (λ (k : ℕ). k + second) (sym e), size_2 (g + second) (omega (arith, a_page first far)))
 
-  module _ (t : List ℕ) (e : t ≡ costs) (p : ℕ) (h : opcode_place first second ≡ p) where
-    pub there : (s : ℕ) → opcode_size p ≡ s → (get_or t p 0 ≡ 0 → ⊥) →
-        ◌≡◌ {A = Option Found} (Some (record { place = p; size = s; cost = get_or t p 0 })) (found_of first second)
-    unfolding found_of
-    there s g n = simp (h, ← entry t e p, g, ne_eqb _ _ n)
+  pub by_first : page_of first ≡ 0 → first < 256 → found_of first second ≡ entry_of first 1
+  unfolding found_of
+  by_first z h = simp (in_first z, size_1 first h)
 
-    pub nowhere : get_or t p 0 ≡ 0 → None ≡ found_of first second
-    unfolding found_of
-    nowhere z = simp (h, ← entry t e p, eq-eqb _ _ z)
+  pub by_second : (g : ℕ) → g ≡ page_of first → (g ≡ 0 → ⊥) → found_of first second ≡ entry_of (g + second) 2
+  unfolding found_of
+  by_second g e n = let h = paged g e n in simp (h.0, h.1)

@@ -28,7 +28,6 @@ const TRUTH: [u16; 16] = [
 pub fn test_holds(k: u8, flags: u8) -> bool
     ensures { result ≡ test_holds_of k (flags_of flags) }
 {
-    let i = (k % 16) as usize;
-    let word = TRUTH[i];
-    (word >> ((flags % 16) as u16)) % 2 == 1
+    let word = TRUTH[(k % 16) as usize];
+    (word >> (flags % 16)) % 2 == 1
 }

@@ -3,7 +3,7 @@ ghost use Rattle.std.specs.Prelude.{◌≡◌, ◌<◌, ◌≤◌, IfSome};
 ghost use Rattle.opcodes.specs.Tables.{cost_at, action_at, mode_at};
 ghost use Rattle.opcodes.specs.inner.Numbers.{action_of, mode_of};
 ghost use Rattle.opcodes.specs.Decode.{page_of};
-ghost use Rattle.opcodes.specs.inner.Lookup.{found_of};
+ghost use Rattle.opcodes.specs.inner.Lookup.{entry_of, found_of};
 
 use crate::table::{actions, costs, modes};
 
@@ -29,36 +29,31 @@ pub fn page_of(op: u8) -> u16
     }
 }
 
+// What the table has at a place, after an opcode of so many bytes.
+#[tactic(auto, unfolding(crate::specs::inner::Lookup::entry_of, crate::specs::Tables::cost_at))]
+fn entry_at(place: usize, size: u16) -> Option<Found>
+    requires { place < 1024 }
+    ensures { result ≡ entry_of place size }
+{
+    match costs()[place] as u32 {
+        0 => None,
+        cost => Some(Found { place, size, cost }),
+    }
+}
+
 // Only where the first map has nothing is the first byte looked at again: it may lead to another map.
 pub fn found_of(first: u8, second: u8) -> Option<Found>
     ensures found { result ≡ found_of first second }
     ensures in_tables { IfSome result (λ f. (f.place < 1024) × (f.size ≤ 2) × (f.cost < 65536)
         × (f.cost ≡ cost_at f.place)) }
 {
-    let table = costs();
-    let place = first as usize;
-    let cost = table[place] as u32;
-    if cost != 0 {
-        return Some(Found {
-            place,
-            size: 1,
-            cost,
-        });
+    if let Some(found) = entry_at(first as usize, 1) {
+        return Some(found);
     }
-    let page = page_of(first);
-    if page == 0 {
-        return None;
+    match page_of(first) {
+        0 => None,
+        page => entry_at((page + (second as u16)) as usize, 2),
     }
-    let paged = (page + (second as u16)) as usize;
-    let paged_cost = table[paged] as u32;
-    if paged_cost == 0 {
-        return None;
-    }
-    Some(Found {
-        place: paged,
-        size: 2,
-        cost: paged_cost,
-    })
 }
 
 // The number of the action of a place.

@@ -6,8 +6,10 @@ use Rattle.opcodes.specs.declared.lookup.Found.{Found}
 use Rattle.opcodes.specs.Tables.{cost_at}
 use Rattle.opcodes.specs.Decode.{opcode_place, opcode_size}
 
+-- what the table has at a place, after an opcode of so many bytes
+unfoldable pub entry_of : ℕ → ℕ → Option Found
+entry_of place size = cond (eqb (cost_at place) 0) None (Some (record { place = place; size = size; cost = cost_at place }))
+
 -- the place, the size of the opcode and the entry of the table, where an instruction is
 unfoldable pub found_of : ℕ → ℕ → Option Found
-found_of first second =
-    let p = opcode_place first second in
-    cond (eqb (cost_at p) 0) None (Some (record { place = p; size = opcode_size p; cost = cost_at p }))
+found_of first second = let p = opcode_place first second in entry_of p (opcode_size p)

@@ -1,44 +1,32 @@
 -- `lookup::found_of` meets its contract: a prefix has no instruction in the first map.
 -- Assumes nothing.
 use borrow.Author.Rules.{rules}
-use mathlib.Core.Path.{sym, ◌∙◌}
-use Prim.Native.Nat.{◌+◌}
-use Rattle.opcodes.proofs.Prefix.{plain, size_1, in_first, paged, entry, there, nowhere}
-use Rattle.opcodes.proofs.Says.{within}
+use mathlib.Core.Path.{◌≡◌, sym, ◌∙◌}
+use Prim.Native.Nat.{ℕ, ◌<◌}
+use native.Mathlib.Omega.{arith}
+use Rattle.std.specs.Prelude.{Some}
+use Rattle.opcodes.specs.declared.lookup.Found.{Found}
+use Rattle.opcodes.specs.inner.Lookup.{entry_of, found_of}
+use Rattle.opcodes.proofs.Prefix.{plain, by_first, by_second}
+use Rattle.opcodes.proofs.Says.{entry_says, within}
 use Rattle.opcodes.proofs.lookup.found_of.Goals as goal
 
-pub returns-then-cost-ne0 : goal.returns-then-cost-ne0
-returns-then-cost-ne0 c = let a = c.args in
-    let t = c.costs-table in
-    let n = c.if-cost-ne0.true in
-    let z = plain a.first (λ q. n (entry t.result.now t.ensures a.first ∙ q)) in
-    let e = there a.first a.second t.result.now t.ensures a.first (in_first a.first a.second z) 1
-    (size_1 a.first (search rules)) n in
-    record { found = e; in_tables = within _ _ _ (sym e) }
+in_first : (first second : ℕ) (o : Found) → first < 256 → Some o ≡ entry_of first 1 → Some o ≡ found_of first second
+in_first first second o h e = e ∙ sym (by_first first second (plain first (entry_says first 1 o (sym e)).3) h)
 
-pub returns-then-page-eq0 : goal.returns-then-page-eq0
-returns-then-page-eq0 c = let a = c.args in
-    let t = c.costs-table in
-    let z = sym c.page_of-page.ensures.0 ∙ c.if-page-eq0.true in
-    record {
-      found = nowhere a.first a.second t.result.now t.ensures a.first (in_first a.first a.second z) c.if-cost-ne0.false;
-      in_tables = search rules;
-    }
+pub returns-in-Some : goal.returns-in-Some
+returns-in-Some c =
+    let e = in_first c.args.first c.args.second c.in-Some.found (omega arith) c.in-Some.ensures in
+    record { found = e; in_tables = within _ _ _ e }
 
-pub returns-then-paged_cost-eq0 : goal.returns-then-paged_cost-eq0
-returns-then-paged_cost-eq0 c = let a = c.args in
-    let g = c.page_of-page in
-    let t = c.costs-table in
-    let h = paged a.first a.second g.result g.ensures.0 c.if-page-eq0.false in
-    record {
-      found = nowhere a.first a.second t.result.now t.ensures (g.result + a.second) h.0 c.if-paged_cost-eq0.true;
-      in_tables = search rules;
-    }
+pub returns-in-0-clause-found : goal.returns-in-0-clause-found
+returns-in-0-clause-found c =
+    let z = sym c.page_of.ensures.0 ∙ c.in-0.is in
+    c.in_default.ensures ∙ sym (by_first c.args.first c.args.second z (omega arith))
 
-pub returns : goal.returns
-returns c = let a = c.args in
-    let g = c.page_of-page in
-    let t = c.costs-table in
-    let h = paged a.first a.second g.result g.ensures.0 c.if-page-eq0.false in
-    let e = there a.first a.second t.result.now t.ensures (g.result + a.second) h.0 2 h.1 c.if-paged_cost-eq0.false in
-    record { found = e; in_tables = within _ _ _ (sym e) }
+pub returns-in_default-page_of : goal.returns-in_default-page_of
+returns-in_default-page_of c =
+    let g = c.page_of in
+    let e = c.entry_at-in_default-page_of.ensures
+    ∙ sym (by_second c.args.first c.args.second g.result g.ensures.0 (search rules)) in
+    record { found = e; in_tables = within _ _ _ e }
