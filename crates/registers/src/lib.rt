@@ -42,19 +42,22 @@ pub struct StackBytes(pub u16);
 
 impl Registers {
     // Document 01's reset value.
+    pub const RESET: Registers = Registers {
+        x: 0,
+        y: 0,
+        sp: 0,
+        pc: 0,
+        lowest: 0,
+        a: 0,
+        b: 0,
+        flags: 0xd0,
+    };
+
+    // A call beside the constant, since a contract can name what a call answers.
     pub fn reset() -> Registers
         ensures { result ≡ reset_of }
     {
-        Registers {
-            x: 0,
-            y: 0,
-            sp: 0,
-            pc: 0,
-            lowest: 0,
-            a: 0,
-            b: 0,
-            flags: 0xd0,
-        }
+        Registers::RESET
     }
 
     // Document 01's named start: the data as given, PC at the entry, and SP below the two bytes of home, the last of
