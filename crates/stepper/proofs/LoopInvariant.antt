@@ -5,6 +5,7 @@ use mathlib.Core.Bool.{Bool, true, false}
 use mathlib.Core.List.{List}
 use Prim.Native.Nat.{ℕ, suc, pred, ◌+◌, ◌-◌, ◌≤◌, ◌<◌}
 use native.Mathlib.Omega.{arith}
+use lib.ListN.{length}
 use Rattle.registers.specs.declared.Registers.{Registers}
 use Rattle.stepper.specs.Answer.{refused, home as run_home, spent, refused as run_refused}
 use Rattle.stepper.specs.Step.{After, step_of}
@@ -12,19 +13,21 @@ use Rattle.stepper.specs.inner.Until.{ends_loop, until_from, next_from, until_of
 use Rattle.stepper.proofs.Costs.{step_cost}
 use Rattle.stepper.proofs.LoopTurn.{refuses, over, steps, ended, goes_on}
 
--- from registers r₀ and memory m₀ the loop has come to r and m, with `left` of the budget b left, and `turns` turns or
--- more may follow
+-- from registers r₀ and memory m₀ the loop has come to r and the whole memory m, with `left` of the budget b left, and
+-- `turns` turns or more may follow
 pub record CameTo (once : Bool) (home b : ℕ) (r₀ : Registers) (m₀ : List ℕ) (left : ℕ)
     (r : Registers) (m : List ℕ) : Type 0 where
+  pub whole : length m ≡ 65536
   pub within : left ≤ b
   pub turns : ℕ
   pub enough : left ≤ turns
   pub same : until_of once home r₀ m₀ b ≡ next_from once home turns b (b - left) r m
 
-pub begun : (once : Bool) (home b : ℕ) (r : Registers) (m : List ℕ) → CameTo once home b r m b r m
-begun once home b r m =
+pub begun : (once : Bool) (home b : ℕ) (r : Registers) (m : List ℕ) → length m ≡ 65536 → CameTo once home b r m b r m
+begun once home b r m whole =
     let z : 0 ≡ b - b = omega arith in
     record {
+      whole = whole;
       within = omega arith;
       turns = b;
       enough = omega arith;
@@ -63,9 +66,10 @@ module _ {once : Bool} {home b : ℕ} {r₀ : Registers} {m₀ : List ℕ} {left
           → until_of once home r₀ m₀ b ≡ record { answer = run_home q (record { 0 = b - (left - k) }); memory = m' }
       finished t = carried_on ∙ ended once home (pred i.turns) b (b - (left - k)) q m' t
 
-      pub again : ends_loop once home q.pc ≡ false → CameTo once home b r₀ m₀ (left - k) q m'
-      again f =
+      pub again : ends_loop once home q.pc ≡ false → length m' ≡ 65536 → CameTo once home b r₀ m₀ (left - k) q m'
+      again f whole =
           record {
+            whole = whole;
             within = omega (arith, i.within);
             turns = pred i.turns;
             enough = omega (arith, cost, covered, i.enough);

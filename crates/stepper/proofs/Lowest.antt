@@ -1,6 +1,7 @@
 -- The lowest SP: every instruction that is done keeps the smaller of the one handed in and SP afterwards; so after a
 -- trace it is the least of the one handed in and SP after each instruction.
 -- Assumes nothing.
+use Rattle.std.specs.Prelude.{Option, Some, None}
 use mathlib.Core.Path.{◌≡◌, refl, ap, subst, ◌∙◌}
 use mathlib.Core.Bool.{Bool, true, false, cond}
 use mathlib.Core.Logic.{◌↔◌}
@@ -17,7 +18,6 @@ use Rattle.memory.specs.Memory.{Store}
 use Rattle.opcodes.specs.Tables.{length_at, cycles_at}
 use Rattle.opcodes.specs.Decode.{place_in, decode_at}
 use Rattle.opcodes.specs.declared.instruction.Decoded.{Decoded}
-use Rattle.opcodes.specs.declared.instruction.Decoded.TheVariants.{Instruction, Nothing}
 use Rattle.instructions.specs.Form.{waits}
 use Rattle.instructions.specs.Entry.{form_of}
 use Rattle.instructions.specs.Effect.{Effect, effect_of}
@@ -35,12 +35,12 @@ module _ (r : Registers) (m : List ℕ) where
   by_wait true e k = tt
   by_wait false e k = refl
 
-  carried : (p : ℕ) (d : Decoded) → KeepsSmaller r.lowest (carried_out p d r m)
+  carried : (p : ℕ) (d : Option Decoded) → KeepsSmaller r.lowest (carried_out p d r m)
   unfolding carried_out
-  carried p Nothing = tt
-  carried p (Instruction a o) =
+  carried p None = tt
+  carried p (Some d) =
       let next = with_pc r (wrapping_add r.pc (length_at p)) in
-      by_wait (waits (form_of a o next.pc)) (effect_of a o next m) (cycles_at p)
+      by_wait (waits (form_of d.action d.operand next.pc)) (effect_of d.action d.operand next m) (cycles_at p)
 
   by_length : (b : Bool) → KeepsSmaller r.lowest (did_if b r m)
   by_length true = let f = fetched m r.pc in carried (place_in f) (decode_at (place_in f) f)

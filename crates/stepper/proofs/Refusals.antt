@@ -1,5 +1,6 @@
 -- The numbers and places of a step's and of a run's refusals: 21 to 23, and 0 or PC, so no place passes PC.
 -- Assumes nothing.
+use Rattle.std.specs.Prelude.{Option, Some, None}
 use mathlib.Core.Bool.{Bool, true, false}
 use mathlib.Core.List.{List}
 use Prim.Native.Nat.{ℕ, zero, suc, ◌+◌, ◌≤◌}
@@ -14,7 +15,6 @@ use Rattle.opcodes.specs.Decode.{place_in, decode_at}
 use Rattle.instructions.specs.Entry.{form_of}
 use Rattle.instructions.specs.Form.{waits}
 use Rattle.opcodes.specs.declared.instruction.Decoded.{Decoded}
-use Rattle.opcodes.specs.declared.instruction.Decoded.TheVariants.{Instruction, Nothing}
 use Rattle.instructions.specs.Effect.{Effect, effect_of}
 use Rattle.stepper.specs.declared.environment.Environment.{Environment}
 use Rattle.stepper.specs.Answer.{Answer, done, refused, RunAnswer, home, spent, refused as run_refused}
@@ -33,12 +33,12 @@ module _ (r : Registers) (m : List ℕ) where
   by_wait true e c = (omega arith, omega arith, omega arith)
   by_wait false e c = tt
 
-  carried : (p : ℕ) (d : Decoded) → StepPlaced (after (carried_out p d r m) m).answer r.pc
+  carried : (p : ℕ) (d : Option Decoded) → StepPlaced (after (carried_out p d r m) m).answer r.pc
   unfolding carried_out
-  carried p Nothing = (omega arith, omega arith, omega arith)
-  carried p (Instruction a o) =
+  carried p None = (omega arith, omega arith, omega arith)
+  carried p (Some d) =
       let next = with_pc r (wrapping_add r.pc (length_at p)) in
-      by_wait (waits (form_of a o next.pc)) (effect_of a o next m) (cycles_at p)
+      by_wait (waits (form_of d.action d.operand next.pc)) (effect_of d.action d.operand next m) (cycles_at p)
 
   by_length : (b : Bool) → StepPlaced (after (did_if b r m) m).answer r.pc
   by_length true = let f = fetched m r.pc in carried (place_in f) (decode_at (place_in f) f)

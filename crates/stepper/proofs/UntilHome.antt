@@ -1,4 +1,4 @@
--- The loop that ends at home is a run that does not begin there.
+-- A run, by where it begins: refused for the memory's length, ended at home, or the loop that ends at home.
 -- Assumes nothing.
 use mathlib.Core.Path.{◌≡◌, refl, sym, ◌∙◌}
 use mathlib.Core.Bool.{false}
@@ -9,6 +9,7 @@ use lib.ListN.{length}
 use borrow.Author.Tests.{eq-eqb, ne_eqb}
 use Rattle.registers.specs.declared.Registers.{Registers}
 use Rattle.stepper.specs.declared.environment.Environment.{Environment}
+use Rattle.stepper.specs.Answer.{RunAnswer, home, refused}
 use Rattle.stepper.specs.Run.{run_from, run_of}
 use Rattle.stepper.specs.inner.Until.{until_from, until_of}
 use Rattle.stepper.proofs.LoopTurn.{goes_on}
@@ -22,6 +23,16 @@ module _ (env : Environment) where
   until_home (suc n) b s r m =
       same_turn b (λ t q m'. until_from false env.home n b t q m') (λ t q m'. run_from env n b t q m') s r m
       (λ q k a w. until_home n b _ q _) (eqb r.pc env.home)
+
+  pub unfit : (r : Registers) (m : List ℕ) (b : ℕ) → (length m ≡ 65536 → ⊥)
+      → run_of env r m b ≡ record { answer = refused 21 0 r (record { 0 = 0 }); memory = m }
+  unfolding run_of
+  unfit r m b n = simp (ne_eqb _ _ n)
+
+  pub at_home : (r : Registers) (m : List ℕ) (b : ℕ) → length m ≡ 65536 → r.pc ≡ env.home
+      → run_of env r m b ≡ record { answer = home r (record { 0 = 0 }); memory = m }
+  unfolding run_of run_from
+  at_home r m b h z = simp (eq-eqb _ _ h, eq-eqb _ _ z)
 
   pub begins : (r : Registers) (m : List ℕ) (b : ℕ) → length m ≡ 65536 → (r.pc ≡ env.home → ⊥)
       → run_of env r m b ≡ until_of false env.home r m b

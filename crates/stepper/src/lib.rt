@@ -40,6 +40,7 @@ fn ran(a: Ended) -> Ran
 }
 
 // One instruction: the loop ends wherever that leads, whatever home is.
+#[tactic(auto, using(crate::proofs::ByFound::unfit, crate::proofs::OneTurn::one_turn))]
 pub fn step(r: Registers, mem: &mut [u8]) -> Stepped
     ensures { (answer_of result ≡ (step_of r mem.old).answer)
         × (mem.new ≡ (step_of r mem.old).memory) }
@@ -51,6 +52,7 @@ pub fn step(r: Registers, mem: &mut [u8]) -> Stepped
 }
 
 // Instructions until the environment's home, a refusal, or one that would pass the budget.
+#[tactic(auto, using(crate::proofs::UntilHome::unfit, crate::proofs::UntilHome::at_home, crate::proofs::UntilHome::begins))]
 pub fn run(r: Registers, mem: &mut [u8], env: Environment, budget: u32) -> Ran
     ensures { (ran_of result ≡ (run_of env r mem.old budget).answer)
         × (mem.new ≡ (run_of env r mem.old budget).memory) }

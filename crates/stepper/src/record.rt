@@ -17,6 +17,7 @@ pub struct AdvancedCopy {
 }
 
 // The thin call: the lent record goes to the stepper by value, and what that leads to is stored in it.
+#[tactic(auto, unfolding(crate::specs::Record::advance_of))]
 pub fn advance(r: &mut Registers, mem: &mut [u8]) -> Advanced
     ensures { afterwards result r.new mem.new ≡ advance_of r.old mem.old }
 {

@@ -1,7 +1,7 @@
 // The loop that a step and a run share: a step is one turn of it. A turn finds the next instruction and decides there
 // whether it is refused, passes the budget or is done: a function for a turn, whose answer held the registers, would
 // send them through memory at every turn. An inner module of `step` and `run`, which have tested the memory's length.
-ghost use Rattle.std.specs.Prelude.{◌≡◌};
+ghost use Rattle.std.specs.Prelude.{◌≡◌, ◌<◌, IfSome};
 ghost use Rattle.registers.specs.Word.{wrapping_add};
 ghost use Rattle.memory.specs.Memory.{byte_at};
 ghost use Rattle.opcodes.specs.inner.Lookup.{found_of};
@@ -33,7 +33,8 @@ fn reached(registers: Registers, spent: u32) -> Reached
 
 // The place of the opcode at PC.
 fn find(mem: &Memory, pc: u16) -> Option<Found>
-    ensures { result ≡ found_of (byte_at mem.now pc) (byte_at mem.now (wrapping_add pc 1)) }
+    ensures found { result ≡ found_of (byte_at mem.now pc) (byte_at mem.now (wrapping_add pc 1)) }
+    ensures in_tables { IfSome result (λ f. (f.place < 1024) × (f.cost < 65536)) }
 {
     found_of(byte_at(mem, pc), byte_at(mem, wrapping_add(pc, 1)))
 }
