@@ -2,11 +2,11 @@
 -- instruction.
 -- Assumes nothing.
 use Rattle.std.specs.Prelude.{Option, Some, None, IfSome}
-use mathlib.Core.Path.{◌≡◌, refl, sym, ap, ◌∙◌}
-use mathlib.Core.Bool.{Bool, true, false, cond}
+use Rattle.std.proofs.lemmas.Bool.Decides.{nat_tests}
+use native.Mathlib.Omega.{arith}
+use mathlib.Core.Path.{◌≡◌, sym}
 use Prim.Native.Nat.{ℕ, ◌≤◌, ◌<◌}
-use lib.Dec.{eqb}
-use borrow.Author.Tests.{eq-eqb, eqb-true, eqb-false}
+use borrow.Author.Tests.{eq-eqb}
 use Rattle.opcodes.specs.Tables.{cost_at}
 use Rattle.opcodes.specs.declared.lookup.Found.{Found}
 use Rattle.opcodes.specs.Decode.{Bytes, opcode_place, opcode_size, decode_at}
@@ -15,26 +15,15 @@ use Rattle.opcodes.proofs.Rule.{below, entry_word}
 use Rattle.opcodes.proofs.Prefix.{size_most}
 
 module _ (p s : ℕ) where
-  abbrev by : Bool → Option Found
-  by b = cond b None (Some (record { place = p; size = s; cost = cost_at p }))
-
-  some_by : (b : Bool) → eqb (cost_at p) 0 ≡ b → (o : Found) → by b ≡ Some o
-      → (p ≡ o.place) × (s ≡ o.size) × (cost_at p ≡ o.cost) × (cost_at p ≡ 0 → ⊥)
-  some_by true t o h = absurd cc
-  some_by false t o h = (cc, cc, cc, eqb-false (cost_at p) 0 t)
-
-  none_by : (b : Bool) → eqb (cost_at p) 0 ≡ b → by b ≡ None → cost_at p ≡ 0
-  none_by true t h = eqb-true (cost_at p) 0 t
-  none_by false t h = absurd cc
-
   pub entry_says : (o : Found) → entry_of p s ≡ Some o
       → (p ≡ o.place) × (s ≡ o.size) × (cost_at p ≡ o.cost) × (cost_at p ≡ 0 → ⊥)
   unfolding entry_of
-  entry_says o h = some_by (eqb (cost_at p) 0) refl o h
+  entry_says o h =
+      (grind (arith, nat_tests), grind (arith, nat_tests), grind (arith, nat_tests), λ z. grind (arith, nat_tests))
 
   no_entry : entry_of p s ≡ None → cost_at p ≡ 0
   unfolding entry_of
-  no_entry h = none_by (eqb (cost_at p) 0) refl h
+  no_entry h = grind (arith, nat_tests)
 
 module _ (first second : ℕ) where
   abbrev pub Said : Found → Type 0
@@ -46,7 +35,7 @@ module _ (first second : ℕ) where
   there_says o h =
       let p = opcode_place first second in
       let w = entry_says p (opcode_size p) o h in
-      (w.0, sym (ap opcode_size w.0) ∙ w.1, sym (ap cost_at w.0) ∙ w.2, λ z. w.3 (ap cost_at w.0 ∙ z))
+      (w.0, cc, cc, λ z. w.3 cc)
 
   pub nowhere_says : found_of first second ≡ None → cost_at (opcode_place first second) ≡ 0
   unfolding found_of
