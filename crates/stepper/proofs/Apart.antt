@@ -7,7 +7,6 @@ use Rattle.registers.specs.declared.Cycles.{Cycles}
 use Rattle.answers.specs.declared.Refusal.{Refusal}
 use Rattle.stepper.specs.declared.answer.Reached.{Reached}
 use Rattle.stepper.specs.declared.answer.Ran.{Ran}
-use Rattle.stepper.specs.declared.answer.Ran.TheVariants as Ran
 use Rattle.stepper.specs.Answer.{Answer, done, refused, RunAnswer, home, spent, answer_of, ran_of}
 use Rattle.stepper.specs.Record.{AdvanceAnswer, done as advanced, refused as not_advanced, advanced_of}
 

@@ -9,7 +9,7 @@ use lib.ListN.{length}
 use borrow.Author.Tests.{eq-eqb, ne_eqb}
 use Rattle.registers.specs.declared.Registers.{Registers}
 use Rattle.stepper.specs.declared.environment.Environment.{Environment}
-use Rattle.stepper.specs.Answer.{RunAnswer, home, refused}
+use Rattle.stepper.specs.Answer.{home, refused}
 use Rattle.stepper.specs.Run.{run_from, run_of}
 use Rattle.stepper.specs.inner.Until.{until_from, until_of}
 use Rattle.stepper.proofs.LoopTurn.{goes_on}

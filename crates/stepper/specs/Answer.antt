@@ -7,7 +7,6 @@ use Rattle.registers.specs.declared.Registers.{Registers}
 use Rattle.answers.specs.declared.Refusal.{Refusal}
 use Rattle.stepper.specs.declared.answer.Reached.{Reached}
 use Rattle.stepper.specs.declared.answer.Ran.{Ran}
-use Rattle.stepper.specs.declared.answer.Ran.TheVariants as Ran
 
 -- of a step: the registers and the cycles, or a refusal's number and place
 pub data Answer : Type 0 where

@@ -4,7 +4,6 @@
 use Rattle.std.specs.Prelude.{ℕ, zero, suc, Bool, false, ◌||◌, List, eqb}
 use Rattle.registers.specs.declared.Registers.{Registers}
 use Rattle.stepper.specs.declared.until.Ended.{Ended}
-use Rattle.stepper.specs.declared.until.Ended.TheVariants as Ended
 use Rattle.stepper.specs.Answer.{Answer, done, refused}
 use Rattle.stepper.specs.Answer.{RunAnswer, home as run_home, spent, refused as run_refused}
 use Rattle.stepper.specs.Step.{After}

@@ -1,6 +1,5 @@
 -- `add8` meets its contract: H and C are the carries of the two sums, and V is bit 7 of what `overflow` answers.
 -- Assumes nothing.
-use borrow.Author.Rules.{rules}
 use mathlib.Core.Path.{refl}
 use Prim.Native.Nat.{◌+◌, ◌%◌}
 use native.Mathlib.Omega.{arith}

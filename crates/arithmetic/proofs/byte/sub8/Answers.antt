@@ -1,6 +1,5 @@
 -- `sub8` meets its contract: C is the borrow, and V that of the sum x of m and r.
 -- Assumes nothing.
-use borrow.Author.Rules.{rules}
 use mathlib.Core.Path.{refl}
 use Prim.Native.Nat.{◌+◌, ◌-◌, ◌%◌}
 use native.Mathlib.Omega.{arith}

@@ -1,6 +1,5 @@
 -- `add16` meets its contract: C is the carry of the sum, and V is bit 15 of what `overflow` answers.
 -- Assumes nothing.
-use borrow.Author.Rules.{rules}
 use mathlib.Core.Bool.{false}
 use Prim.Native.Nat.{◌+◌, ◌%◌}
 use native.Mathlib.Omega.{arith}
