@@ -30,8 +30,7 @@ fn byte_in(image: &[u8], i: usize) -> u8
 
 // The instruction at address a that was found, whose operand's bytes are u, v and w.
 fn shape_found(found: Found, u: u8, v: u8, w: u8, a: u16) -> SizedShape
-    requires place_bound { found.place < 1024 }
-    requires cost_value { found.cost ≡ cost_at found.place }
+    requires { (found.place < 1024) × (found.cost < 65536) × (found.cost ≡ cost_at found.place) }
     ensures { (shape_said result.shape ≡ shape_in found.place (Some (instruction_of found.place u v w)) a)
         × (result.size ≡ length_at found.place) }
 {
