@@ -11,7 +11,7 @@ use Rattle.std.specs.declared.cmp.Ordering.TheVariants.{Less, Equal, Greater}
 use Rattle.std.specs.List.{HoldsAt}
 use Rattle.std.specs.List.Sorted.{IsBinarySearchResult, IsPartitionPoint}
 use Rattle.std.proofs.lemmas.List.Sorted.{IsNonDecreasingBy-from_default}
-use Rattle.opcodes.proofs.Order.{le_or_lt}
+use Rattle.std.proofs.lemmas.Bool.{cases_lt}
 use Rattle.ticket.specs.declared.fields.Mark.{Mark}
 use Rattle.ticket.specs.Fields.{blank_mark}
 use Rattle.ticket.specs.Rules.{Rising}
@@ -74,5 +74,5 @@ module _ (ms : List Mark) (r : Rising ms) (a : ℕ) where
 
       away : (k : ℕ) → k < length ms → address_at ms k ≡ a → ⊥
       away k h e =
-          ⊎_elim (λ l. omega (arith, e, compared _ a Greater (parts.1 k blank_mark l h)))
-          (λ l. omega (arith, e, compared _ a Less (parts.0 k blank_mark (omega arith) l))) (le_or_lt i k)
+          ⊎_elim (λ l. omega (arith, e, compared _ a Less (parts.0 k blank_mark (omega arith) l)))
+          (λ l. omega (arith, e, compared _ a Greater (parts.1 k blank_mark l h))) (cases_lt k i)

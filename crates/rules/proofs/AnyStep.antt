@@ -6,6 +6,7 @@ use mathlib.Core.Bool.{Bool}
 use mathlib.Core.List.{List}
 use lib.ListN.{length}
 use borrow.Author.Tests.{eq-eqb}
+use Rattle.std.specs.Prelude.{Option, Some, None}
 use Rattle.registers.specs.Word.{wrapping_add}
 use Rattle.registers.specs.Registers.{with_pc}
 use Rattle.registers.specs.declared.Registers.{Registers}
@@ -13,7 +14,6 @@ use Rattle.opcodes.specs.Decode.{place_in, decode_of}
 use Rattle.instructions.specs.Entry.{form_of, reads_of, outcome_of}
 use Rattle.opcodes.specs.Tables.{length_at, cycles_at}
 use Rattle.opcodes.specs.declared.instruction.Decoded.{Decoded}
-use Rattle.opcodes.specs.declared.instruction.Decoded.TheVariants.{Instruction, Nothing}
 use Rattle.instructions.specs.Operand.{input_of, mask_of}
 use Rattle.instructions.specs.Effect.{effect_of}
 use Rattle.stepper.specs.Step.{fetched, carried_out, did_if, did_of}
@@ -22,15 +22,15 @@ use Rattle.stepper.specs.Flow.{flow_in, flow_of}
 use Rattle.rules.proofs.Obeys.{Obeys, by_form}
 
 module _ (r : Registers) (m : List ℕ) (low : r.sp < 65536) where
-  by_decoded : (p : ℕ) (d : Decoded) → did_of r m ≡ carried_out p d r m → flow_of m r.pc ≡ flow_in p d r.pc →
+  by_decoded : (p : ℕ) (d : Option Decoded) → did_of r m ≡ carried_out p d r m → flow_of m r.pc ≡ flow_in p d r.pc →
       Obeys (shape_in p d r.pc) r m
   unfolding carried_out effect_of
-  by_decoded p Nothing e h = tt
-  by_decoded p (Instruction a o) e h =
+  by_decoded p None e h = tt
+  by_decoded p (Some d) e h =
       let next = wrapping_add r.pc (length_at p) in
       let q = with_pc r next in
-      by_form r m low (form_of a o next) next (cycles_at p)
-      (outcome_of a (mask_of o) (input_of (reads_of a) o q m) q) e h
+      by_form r m low (form_of d.action d.operand next) next (cycles_at p)
+      (outcome_of d.action (mask_of d.operand) (input_of (reads_of d.action) d.operand q m) q) e h
 
 pub obeys : (r : Registers) (m : List ℕ) → length m ≡ 65536 → r.sp < 65536 →
     Obeys (shape_of (fetched m r.pc) r.pc) r m

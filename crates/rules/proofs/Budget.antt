@@ -9,7 +9,7 @@ use native.Mathlib.Nat.{zero-add, add-zero, add_assoc}
 use lib.ListN.{length}
 use borrow.Author.Tests.{eq-eqb}
 use Rattle.registers.specs.declared.Registers.{Registers}
-use Rattle.opcodes.proofs.Order.{le_or_lt}
+use Rattle.std.proofs.lemmas.Bool.{cases_lt}
 use Rattle.memory.specs.Memory.{Store, applied}
 use Rattle.stepper.specs.declared.environment.Environment.{Environment}
 use Rattle.stepper.specs.Step.{did, did_of}
@@ -93,11 +93,11 @@ module _ (env : Environment) where
     stops before a l (then {r} {q} {m} {ws} {k} {evs} away done rest) u =
         let ev : Event = event_at r m q ws k in
         let sum : total (before ++ (ev ∷ [])) ≡ total before + k = rw (total-++ before (ev ∷ []), add-zero) refl in
-        ⊎_elim (λ c.
+        ⊎_elim (λ c. stops_here before ev evs a l away done c) (λ c.
         let later = stops (before ++ (ev ∷ [])) (joined a (then away done stay)) (omega (arith, sum, c)) rest
         (omega (arith, sum)) in
         rw (append_assoc before (ev ∷ []) evs) at later)
-        (λ c. stops_here before ev evs a l away done c) (le_or_lt (total before + k) b)
+        (cases_lt b (total before + k))
 
   -- from registers whose lowest SP is their SP
   pub run_stops : {r e : Registers} {m n : List ℕ} {evs : List Event} → r.lowest ≡ r.sp → length m ≡ 65536

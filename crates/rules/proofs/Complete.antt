@@ -4,13 +4,14 @@ use Prim.Native.Nat.{ℕ, ◌+◌}
 use mathlib.Core.Path.{◌≡◌}
 use mathlib.Core.List.{List}
 use Rattle.ticket.specs.Fields.{Fields}
-use Rattle.answers.specs.declared.Verdict.TheVariants.{Accept}
+use Rattle.std.specs.Prelude.{Ok}
 use Rattle.rules.specs.Rules.{Accepted}
 use Rattle.rules.specs.Checks.{verdict_on}
 use Rattle.rules.proofs.Passes.{append_says, first_says}
 use Rattle.rules.proofs.MarkChecks.{tests, marks_says}
 
 pub accepts : (f : Fields) (image : List ℕ) (A : Accepted f image) →
-    verdict_on f image ≡ Accept f.header.entry A.start.cost (record { 0 = A.start.need.0 + 2 })
+    verdict_on f image
+    ≡ Ok (record { entry = f.header.entry; cost = A.start.cost; stack = record { 0 = A.start.need.0 + 2 } })
 unfolding verdict_on
 accepts f image A = simp (first_says, append_says, marks_says, tests) (rw A.start_marked (simp tests (search)))

@@ -5,10 +5,10 @@ use mathlib.Core.Path.{◌≡◌, refl, sym, ap}
 use mathlib.Core.List.{List, [], ◌∷◌}
 use native.Mathlib.Omega.{arith}
 use Rattle.registers.specs.declared.Cycles.{Cycles}
-use Rattle.registers.specs.declared.StackBytes.{StackBytes}
 use Rattle.commands.specs.Number.{AllBytes}
 use Rattle.ticket.specs.Fields.{Fields}
-use Rattle.answers.specs.declared.Verdict.TheVariants.{Accept}
+use Rattle.std.specs.Prelude.{Ok}
+use Rattle.answers.specs.declared.Acceptance.{Acceptance}
 use Rattle.rules.specs.Rules.{Accepted, Certified}
 use Rattle.rules.specs.Checks.{verdict_of}
 use Rattle.rules.proofs.Exact.{accepts_exactly}
@@ -42,11 +42,10 @@ comes_home f image A d m L =
     }
 
 -- over the verdict of a ticket's and an image's bytes
-pub demand_3 : (ticket image : List ℕ) → AllBytes ticket → (e : ℕ) (c : Cycles) (s : StackBytes) →
-    verdict_of ticket image ≡ Accept e c s
-    → (C : Certified ticket image e c s) × Demand3 C.fields image c.0 (s.0 - 2)
-demand_3 ticket image bytes e c s v =
-    let C = (accepts_exactly ticket image bytes e c s).0 v in
-    let cost : C.accepted.start.cost.0 ≡ c.0 = ap (λ (x : Cycles). x.0) (sym C.cost_is) in
-    let need : C.accepted.start.need.0 ≡ s.0 - 2 = omega (arith, C.stack_is) in
+pub demand_3 : (ticket image : List ℕ) → AllBytes ticket → (a : Acceptance) → verdict_of ticket image ≡ Ok a
+    → (C : Certified ticket image a) × Demand3 C.fields image a.cost.0 (a.stack.0 - 2)
+demand_3 ticket image bytes a v =
+    let C = (accepts_exactly ticket image bytes a).0 v in
+    let cost : C.accepted.start.cost.0 ≡ a.cost.0 = ap (λ (x : Cycles). x.0) (sym C.cost_is) in
+    let need : C.accepted.start.need.0 ≡ a.stack.0 - 2 = omega (arith, C.stack_is) in
     (C, rw (cost, need) at (comes_home C.fields image C.accepted))

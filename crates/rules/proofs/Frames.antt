@@ -3,7 +3,7 @@
 use Prim.Native.Nat.{ℕ, ◌+◌, ◌≤◌, ◌<◌}
 use mathlib.Core.Path.{◌≡◌}
 use mathlib.Core.List.{List, [], ◌∷◌}
-use mathlib.Core.Option.{some}
+use Rattle.std.specs.Prelude.{Some}
 use native.Mathlib.Omega.{arith}
 use Rattle.memory.specs.Memory.{byte_at}
 use Rattle.commands.specs.declared.command.Claim.{Claim}
@@ -22,7 +22,7 @@ pub record Frame : Type 0 where
 
 -- the return address over base b is a frame's; after the return SP is b + 2
 pub record Over (f : Fields) (need : ℕ) (m : List ℕ) (b : ℕ) (u : Frame) : Type 0 where
-  pub marked : claim_at f.marks u.address ≡ some u.claim
+  pub marked : claim_at f.marks u.address ≡ Some u.claim
   pub base : b + 2 + u.claim.depth.0 ≡ u.base
   pub room : top_of f + u.claim.need.0 ≤ b + 2 + 2 + need
   pub word : HoldsWord m b u.address

@@ -5,7 +5,7 @@ use mathlib.Core.Path.{◌≡◌, refl}
 use mathlib.Core.Logic.{◌↔◌}
 use mathlib.Core.Bool.{Bool, true, false≢true, and-eq-true_iff}
 use mathlib.Core.List.{List, [], ◌∷◌}
-use mathlib.Core.Option.{Option, none, some}
+use Rattle.std.specs.Prelude.{Option, Some, None}
 use borrow.Author.Tests.{leb-true, eqb-true}
 use Rattle.commands.specs.declared.command.Claim.{Claim}
 use Rattle.commands.specs.declared.header.Window.{Window}
@@ -26,9 +26,9 @@ use Rattle.rules.proofs.Passes.{Passes, append_says}
 
 pub ruleset tests = (and-eq-true_iff, leb_says, ltb_says, eqb_says)
 
-pub marked : (o : Option Claim) → is_marked o ≡ true → (c : Claim) × (o ≡ some c)
-marked none e = absurd (false≢true e)
-marked (some c) e = (c, refl)
+pub marked : (o : Option Claim) → is_marked o ≡ true → (c : Claim) × (o ≡ Some c)
+marked None e = absurd (false≢true e)
+marked (Some c) e = (c, refl)
 
 written_says : (w : Window) (l : List ℕ) → (all (holds w) l ≡ true) ↔ Every (In w) l
 written_says w [] = (λ e. Every.none, λ r. refl)

@@ -4,8 +4,7 @@ use Prim.Native.Nat.{ℕ}
 use mathlib.Core.Path.{◌≡◌, refl, sym}
 use mathlib.Core.Bool.{Bool, true, false, cond}
 use mathlib.Core.List.{List, [], ◌∷◌}
-use mathlib.Core.Option.{some}
-use native.Mathlib.Omega.{arith}
+use Rattle.std.specs.Prelude.{Some}
 use lib.Dec.{eqb}
 use borrow.Author.Tests.{eqb-true}
 use Rattle.commands.specs.declared.command.Claim.{Claim}
@@ -17,14 +16,14 @@ abbrev Holds : (Mark → Type 0) → ℕ → Claim → Type 0
 Holds Q a k = Q (record { address = a; claim = k })
 
 here : (Q : Mark → Type 0) (m : Mark) (ms : List Mark) (a : ℕ) (k : Claim) (b : Bool) → eqb m.address a ≡ b → Q m
-    → (claim_at ms a ≡ some k → Holds Q a k) → cond b (some m.claim) (claim_at ms a) ≡ some k → Holds Q a k
+    → (claim_at ms a ≡ Some k → Holds Q a k) → cond b (Some m.claim) (claim_at ms a) ≡ Some k → Holds Q a k
 here Q m ms a k true t q later h =
     let same : a ≡ m.address = sym (eqb-true m.address a t) in
     let claims : k ≡ m.claim = cc in
     rw (same, claims) q
 here Q m ms a k false t q later h = later h
 
-pub holding : (Q : Mark → Type 0) (ms : List Mark) → Every Q ms → (a : ℕ) (k : Claim) → claim_at ms a ≡ some k →
+pub holding : (Q : Mark → Type 0) (ms : List Mark) → Every Q ms → (a : ℕ) (k : Claim) → claim_at ms a ≡ Some k →
     Q (record { address = a; claim = k })
-holding Q [] none a k h = let no : ◌≡◌ {A = ℕ} 0 1 = cc in absurd (omega arith)
+holding Q [] none a k h = absurd cc
 holding Q (m ∷ ms) (more q qs) a k h = here Q m ms a k (eqb m.address a) refl q (holding Q ms qs a k) h

@@ -18,8 +18,6 @@ use Rattle.instructions.specs.Form.{waits}
 use Rattle.instructions.specs.Entry.{form_of, reads_of, outcome_of}
 use Rattle.opcodes.specs.Tables.{length_at, cycles_at}
 use Rattle.opcodes.specs.declared.instruction.Address.TheVariants.{Fixed, IndexedX, IndexedY}
-use Rattle.opcodes.specs.declared.instruction.Decoded.{Decoded}
-use Rattle.opcodes.specs.declared.instruction.Decoded.TheVariants.{Instruction, Nothing}
 use Rattle.instructions.specs.declared.form.Form.{Form}
 use Rattle.instructions.specs.declared.form.Form.TheVariants.{Computes, StoresByte, StoresWord, PushesByte, PushesWord}
 use Rattle.instructions.specs.declared.form.Form.TheVariants.{PullsByte, PullsWord, Reserves, Releases, Branches}

@@ -5,7 +5,7 @@ use mathlib.Core.Path.{◌≡◌}
 use mathlib.Core.Bool.{false}
 use mathlib.Core.List.{List}
 use Rattle.answers.specs.declared.Refusal.{Refusal}
-use Rattle.answers.specs.declared.Verdict.TheVariants.{Refuse}
+use Rattle.std.specs.Prelude.{Err}
 use Rattle.commands.specs.declared.header.Header.{Header}
 use Rattle.commands.specs.Header.{required_commands}
 use Rattle.ticket.specs.Fields.{Fields, read, refused}
@@ -23,7 +23,7 @@ pub judged_alike : (h : Header) (rest : List ℕ) → AllFit (required_commands 
     → ((f : Fields) → read_of (begun h rest) ≡ read f → verdict_of (begun_with_home h rest) image
     ≡ verdict_of (begun h rest) image)
     × ((r : Refusal) → read_of (begun h rest) ≡ refused r → verdict_of (begun_with_home h rest) image
-    ≡ Refuse (moved_place required_size 3 r))
+    ≡ Err (moved_place required_size 3 r))
 unfolding verdict_of
 judged_alike h rest fits away image = (
   λ f e. rw (read_alike h rest fits away, e),

@@ -1,16 +1,13 @@
 -- A verdict accepts where every check passes, and only there.
 -- Assumes nothing.
-use Prim.Native.Nat.{ℕ}
 use mathlib.Core.Path.{◌≡◌, refl}
 use mathlib.Core.Logic.{◌↔◌}
 use mathlib.Core.Bool.{Bool, true, false, cond, false≢true}
 use mathlib.Core.List.{List, [], ◌∷◌, ◌++◌}
-use native.Mathlib.Omega.{arith}
-use Rattle.registers.specs.declared.Cycles.{Cycles}
-use Rattle.registers.specs.declared.StackBytes.{StackBytes}
 use Rattle.answers.specs.declared.Refusal.{Refusal}
-use Rattle.answers.specs.declared.Verdict.{Verdict}
-use Rattle.answers.specs.declared.Verdict.TheVariants.{Accept, Refuse}
+use Rattle.std.specs.Prelude.{Ok, Err}
+use Rattle.answers.specs.declared.Acceptance.{Acceptance}
+use Rattle.answers.specs.Verdict.{Verdict}
 use Rattle.rules.specs.Checks.{Check, first_failing}
 
 -- every check of a list
@@ -22,16 +19,14 @@ pub append_says : (cs ds : List Check) → Passes (cs ++ ds) ↔ (Passes cs × P
 append_says [] ds = (λ p. (tt, p), λ p. p.1)
 append_says (c ∷ cs) ds = simp (append_says cs ds) (λ p. search, λ p. search)
 
-module _ (e : ℕ) (c : Cycles) (s : StackBytes) where
-  pub refuses : (r : Refusal) → Refuse r ≡ Accept e c s → ⊥
-  refuses r h = let z : ◌≡◌ {A = ℕ} 0 1 = cc in omega arith
+module _ (a : Acceptance) where
+  pub refuses : (r : Refusal) → ◌≡◌ {A = Verdict} (Err r) (Ok a) → ⊥
+  refuses r h = cc
 
-  cond_says : (b : Bool) (v : Verdict) (r : Refusal) → (cond b v (Refuse r) ≡ Accept e c s) ↔ ((b ≡ true)
-      × (v ≡ Accept e c s))
+  cond_says : (b : Bool) (v : Verdict) (r : Refusal) → (cond b v (Err r) ≡ Ok a) ↔ ((b ≡ true) × (v ≡ Ok a))
   cond_says true v r = (λ h. (refl, h), λ h. h.1)
   cond_says false v r = (λ h. absurd (refuses r h), λ h. absurd (false≢true h.0))
 
-  pub first_says : (cs : List Check) (v : Verdict) → (first_failing cs v ≡ Accept e c s) ↔ (Passes cs
-      × (v ≡ Accept e c s))
+  pub first_says : (cs : List Check) (v : Verdict) → (first_failing cs v ≡ Ok a) ↔ (Passes cs × (v ≡ Ok a))
   first_says [] v = (λ h. (tt, h), λ h. h.1)
   first_says (k ∷ cs) v = simp (cond_says, first_says cs v) (λ h. search, λ h. search)

@@ -4,7 +4,7 @@ use Prim.Native.Nat.{ℕ, ◌+◌, ◌/◌, ◌%◌, ◌≤◌, ◌<◌}
 use mathlib.Core.Path.{◌≡◌, refl, sym, ap, subst, ◌∙◌}
 use mathlib.Core.Logic.{◌⊎◌, inl, inr}
 use mathlib.Core.List.{List, [], ◌∷◌, tail}
-use mathlib.Core.Option.{some}
+use Rattle.std.specs.Prelude.{Some}
 use native.Mathlib.Omega.{arith}
 use lib.ListN.{length}
 use Rattle.registers.specs.Word.{wrapping_add, wrapping_sub}
@@ -38,7 +38,7 @@ pub record Ready {f : Fields} {image : List ℕ} (A : Accepted f image) (r : Reg
   pub claim : Claim
   pub whole : length m ≡ 65536
   pub code : Filled f image m
-  pub marked : claim_at f.marks r.pc ≡ some claim
+  pub marked : claim_at f.marks r.pc ≡ Some claim
   pub depth : r.sp + claim.depth.0 ≡ base
   -- the lowest SP to come is not below the lowest that the start allows
   pub room : top_of f + claim.need.0 ≤ r.sp + 2 + A.start.need.0

@@ -6,7 +6,7 @@ use mathlib.Core.Logic.{⊎_elim}
 use mathlib.Core.List.{List, [], ◌∷◌, ◌++◌, append-nil}
 use lib.ListN.{length}
 use Rattle.registers.specs.declared.Registers.{Registers}
-use Rattle.opcodes.proofs.Order.{le_or_lt}
+use Rattle.std.proofs.lemmas.Bool.{cases_lt}
 use Rattle.stepper.specs.declared.environment.Environment.{Environment}
 use Rattle.stepper.specs.Answer.{registers_reached}
 use Rattle.stepper.specs.Run.{run_of}
@@ -29,8 +29,8 @@ module _ (f : Fields) (env : Environment) (need : ℕ) where
       → length m ≡ 65536 → Along env r m evs e n → e.pc ≡ env.home → Safe f need used evs
       → WithinNeed f need r.lowest → (b : ℕ) → WithinNeed f need (registers_reached (run_of env r m b).answer).lowest
   run_near used {evs} begins whole a h S near b =
-      ⊎_elim (λ l. rw (run_home env whole a h b l) (reached_near used [] a (rw append-nil S) near))
-      (λ l.
+      ⊎_elim (λ l.
       let s = run_stops env begins whole a b l in
       rw s.answer (reached_near used (s.next ∷ s.rest) s.along (rw s.parts at S) near))
-      (le_or_lt (total evs) b)
+      (λ l. rw (run_home env whole a h b l) (reached_near used [] a (rw append-nil S) near))
+      (cases_lt b (total evs))

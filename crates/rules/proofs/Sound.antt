@@ -4,25 +4,24 @@ use Prim.Native.Nat.{ℕ, ◌+◌}
 use mathlib.Core.Path.{◌≡◌}
 use mathlib.Core.List.{List}
 use borrow.Author.Tests.{leb-true, eqb-true}
-use Rattle.registers.specs.declared.Cycles.{Cycles}
-use Rattle.registers.specs.declared.StackBytes.{StackBytes}
 use Rattle.ticket.specs.Fields.{Fields}
 use Rattle.ticket.specs.Rules.{Readable}
-use Rattle.answers.specs.declared.Verdict.TheVariants.{Accept}
+use Rattle.std.specs.Prelude.{Ok}
+use Rattle.answers.specs.declared.Acceptance.{Acceptance}
 use Rattle.rules.specs.Marks.{claim_at}
 use Rattle.rules.specs.Rules.{Accepted}
 use Rattle.rules.specs.Checks.{verdict_on}
 use Rattle.rules.proofs.Passes.{append_says, first_says}
 use Rattle.rules.proofs.MarkChecks.{tests, marked, marks_says}
 
-pub accepted : (f : Fields) (image : List ℕ) → Readable f → (e : ℕ) (c : Cycles) (s : StackBytes) →
-    verdict_on f image ≡ Accept e c s
-    → (A : Accepted f image) × (e ≡ f.header.entry) × (c ≡ A.start.cost) × (s.0 ≡ A.start.need.0 + 2)
+pub accepted : (f : Fields) (image : List ℕ) → Readable f → (a : Acceptance) → verdict_on f image ≡ Ok a
+    → (A : Accepted f image) × (a.entry ≡ f.header.entry) × (a.cost ≡ A.start.cost)
+    × (a.stack.0 ≡ A.start.need.0 + 2)
 unfolding verdict_on
-accepted f image r e c s j =
+accepted f image r a j =
     let h = simp (first_says, append_says, marks_says, tests) at j in
     let k = marked (claim_at f.marks f.header.entry) h.0.1.1.0.0 in
-    let a = rw k.1 at h.1 in (
+    let same = rw k.1 at h.1 in (
       record {
         readable = r;
         image_length = h.0.0;
