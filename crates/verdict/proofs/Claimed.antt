@@ -5,6 +5,7 @@ use mathlib.Core.Path.{◌≡◌, ◌∙◌}
 use mathlib.Core.List.{List}
 use native.Mathlib.Omega.{arith}
 use borrow.Author.Tests.{eq-eqb}
+use Rattle.std.specs.Prelude.{Ok}
 use lib.ListN.{length, get_or, set, length-set}
 use lib.Seq.{get_or-set_same, get_or-set_other}
 use Rattle.registers.specs.declared.Data.{Data}
@@ -18,7 +19,6 @@ use Rattle.ticket.specs.Rules.{In, HeaderRules}
 use Rattle.rules.specs.Rules.{Accepted}
 use Rattle.rules.specs.Claim.{top_of, Loaded}
 use Rattle.rules.proofs.Memory.{length_applied, byte_applied}
-use Rattle.verdict.specs.declared.Started.TheVariants.{At}
 use Rattle.verdict.specs.Start.{image_stores, started_of, loaded_of, StartsAsClaimed}
 use Rattle.verdict.proofs.Stores.{image_read, home_of, last_is, under_is, code_is}
 
@@ -49,7 +49,8 @@ module _ (f : Fields) (H : HeaderRules f.header) (m : List ℕ) where
       ))
 
 module _ (f : Fields) (image m : List ℕ) (A : Accepted f image) (size : length m ≡ 65536) where
-  started : (d : Data) → started_of f.header d image m ≡ At (start_of d f.header.entry (top_of f)) f.header.home
+  started : (d : Data) → started_of f.header d image m
+      ≡ Ok (record { registers = start_of d f.header.entry (top_of f); home = f.header.home })
   unfolding started_of
   started d = simp (eq-eqb _ _ size, eq-eqb _ _ A.image_length, last_is f A.readable.header_rules)
 

@@ -9,10 +9,10 @@ use native.Mathlib.Omega.{arith}
 use lib.Dec.{eqb}
 use lib.ListN.{length}
 use borrow.Author.Tests.{eq-eqb, eqb-true}
-use Rattle.registers.specs.declared.Cycles.{Cycles}
-use Rattle.registers.specs.declared.StackBytes.{StackBytes}
+use Rattle.std.specs.Prelude.{Ok, Err}
+use Rattle.answers.specs.declared.Acceptance.{Acceptance}
 use Rattle.answers.specs.declared.Refusal.{Refusal}
-use Rattle.answers.specs.declared.Verdict.TheVariants.{Accept, Refuse}
+use Rattle.answers.specs.Verdict.{Verdict}
 use Rattle.commands.specs.Number.{AllBytes}
 use Rattle.ticket.specs.Fields.{Fields, ReadOutcome, read, refused}
 use Rattle.ticket.specs.Read.{refusal, read_of}
@@ -35,10 +35,10 @@ use Rattle.verdict.specs.Records.{FileComesHome, FileRefusalsNumbered, FilePromi
 use Rattle.verdict.specs.Promise.{VerdictNumber}
 use Rattle.verdict.proofs.Numbered.{numbered}
 
-refuse_accept : (r : Refusal) (e : ℕ) (c : Cycles) (k : StackBytes) → Refuse r ≡ Accept e c k → ⊥
-refuse_accept r e c k h = let z : ◌≡◌ {A = ℕ} 0 1 = cc in omega arith
+refuse_accept : (r : Refusal) (a : Acceptance) → ◌≡◌ {A = Verdict} (Err r) (Ok a) → ⊥
+refuse_accept r a h = cc
 
-refuse_same : {x y : Refusal} → Refuse x ≡ Refuse y → x ≡ y
+refuse_same : {x y : Refusal} → ◌≡◌ {A = Verdict} (Err x) (Err y) → x ≡ y
 refuse_same e = cc
 
 module _ (ticket file buffer : List ℕ) where
@@ -55,28 +55,28 @@ module _ (ticket file buffer : List ℕ) where
   judged f image g = rw (g.ticket_read, g.file_read, eq-eqb _ _ g.room)
 
   -- what is accepted is good
-  accepted_good : (e : ℕ) (c : Cycles) (k : StackBytes) → (records_verdict_of ticket file buffer).answer ≡ Accept e c k
+  accepted_good : (a : Acceptance) → (records_verdict_of ticket file buffer).answer ≡ Ok a
       → (f : Fields) × (image : List ℕ) × Good f image
   unfolding records_verdict_of load_of
-  accepted_good e c k h = by_read (read_of ticket) refl h
+  accepted_good a h = by_read (read_of ticket) refl h
     where
       by_room : (f : Fields) (image : List ℕ) → read_of ticket ≡ read f → file_of f.header.code file ≡ named image
           → (b : Bool) → eqb (length buffer) f.header.code.length ≡ b
-          → (records_verdict_of ticket file buffer).answer ≡ Accept e c k → (f : Fields) × (image : List ℕ)
+          → (records_verdict_of ticket file buffer).answer ≡ Ok a → (f : Fields) × (image : List ℕ)
           × Good f image
       by_room f image t n true r h = (f, image, record { ticket_read = t; file_read = n; room = eqb-true _ _ r })
-      by_room f image t n false r h = absurd (refuse_accept (refusal 9 0) e c k (rw (t, n, r) at h))
+      by_room f image t n false r h = absurd (refuse_accept (refusal 9 0) a (rw (t, n, r) at h))
 
       by_file : (f : Fields) → read_of ticket ≡ read f → (o : FileOutcome) → file_of f.header.code file ≡ o
-          → (records_verdict_of ticket file buffer).answer ≡ Accept e c k → (f : Fields) × (image : List ℕ)
+          → (records_verdict_of ticket file buffer).answer ≡ Ok a → (f : Fields) × (image : List ℕ)
           × Good f image
-      by_file f t (file_refused r) n h = absurd (refuse_accept r e c k (rw (t, n) at h))
+      by_file f t (file_refused r) n h = absurd (refuse_accept r a (rw (t, n) at h))
       by_file f t (named image) n h = by_room f image t n (eqb (length buffer) f.header.code.length) refl h
 
       by_read : (o : ReadOutcome) → read_of ticket ≡ o
-          → (records_verdict_of ticket file buffer).answer ≡ Accept e c k → (f : Fields) × (image : List ℕ)
+          → (records_verdict_of ticket file buffer).answer ≡ Ok a → (f : Fields) × (image : List ℕ)
           × Good f image
-      by_read (refused r) t h = absurd (refuse_accept r e c k (rw t at h))
+      by_read (refused r) t h = absurd (refuse_accept r a (rw t at h))
       by_read (read f) t h = by_file f t (file_of f.header.code file) refl h
 
   module _ (bytes : AllBytes ticket) where
@@ -121,19 +121,19 @@ module _ (ticket file buffer : List ℕ) where
 
     -- a file that is refused
     file_refused_so : (f : Fields) → read_of ticket ≡ read f → (x : Refusal)
-        → file_of f.header.code file ≡ file_refused x → (records_verdict_of ticket file buffer).answer ≡ Refuse x
+        → file_of f.header.code file ≡ file_refused x → (records_verdict_of ticket file buffer).answer ≡ Err x
     unfolding records_verdict_of load_of
     file_refused_so f t x n = rw (t, n)
 
     -- the certified fields are those that are read
-    certified_read : (image : List ℕ) (e : ℕ) (c : Cycles) (k : StackBytes) (C : Certified ticket image e c k)
+    certified_read : (image : List ℕ) (a : Acceptance) (C : Certified ticket image a)
         → read_of ticket ≡ read C.fields
-    certified_read image e c k C = rules_read ticket C.fields C.bytes C.fits C.accepted.readable
+    certified_read image a C = rules_read ticket C.fields C.bytes C.fits C.accepted.readable
 
-    certified_names : (f : Fields) (image : List ℕ) → Good f image → (e : ℕ) (c : Cycles) (k : StackBytes)
-        → (C : Certified ticket image e c k) → Names C.fields.header.code file image
-    certified_names f image g e c k C =
-        let t = certified_read image e c k C in
+    certified_names : (f : Fields) (image : List ℕ) → Good f image → (a : Acceptance)
+        → (C : Certified ticket image a) → Names C.fields.header.code file image
+    certified_names f image g a C =
+        let t = certified_read image a C in
         let same : f ≡ C.fields = read_same (sym g.ticket_read ∙ t) in
         (file_good_exactly C.fields t image).0 (rw same at g.file_read)
       where
@@ -141,42 +141,42 @@ module _ (ticket file buffer : List ℕ) where
         read_same e = cc
 
     file_accepts_exactly : FileAcceptsExactly ticket file buffer
-    file_accepts_exactly e c k = (only, if_certified)
+    file_accepts_exactly a = (only, if_certified)
       where
-        only : (records_verdict_of ticket file buffer).answer ≡ Accept e c k → FileCertified ticket file buffer e c k
+        only : (records_verdict_of ticket file buffer).answer ≡ Ok a → FileCertified ticket file buffer a
         only h =
-            let a = accepted_good e c k h in
-            let f = a.0 in
-            let image = a.1 in
-            let g = a.2 in
-            let on_image : verdict_of ticket image ≡ Accept e c k = rw (judged f image g) at h in
-            let C = (accepts_exactly ticket image bytes e c k).0 on_image in
-            let n = certified_names f image g e c k C in
+            let known = accepted_good a h in
+            let f = known.0 in
+            let image = known.1 in
+            let g = known.2 in
+            let on_image : verdict_of ticket image ≡ Ok a = rw (judged f image g) at h in
+            let C = (accepts_exactly ticket image bytes a).0 on_image in
+            let n = certified_names f image g a C in
             record { image = image; certified = C; names = n; room = (good_named f image g).room }
 
-        if_certified : FileCertified ticket file buffer e c k
-            → (records_verdict_of ticket file buffer).answer ≡ Accept e c k
+        if_certified : FileCertified ticket file buffer a
+            → (records_verdict_of ticket file buffer).answer ≡ Ok a
         if_certified F =
             let C = F.certified in
-            let t = certified_read F.image e c k C in
+            let t = certified_read F.image a C in
             let g = named_good C.fields F.image t F.names F.room in
-            rw (judged C.fields F.image g) ((accepts_exactly ticket F.image bytes e c k).1 C)
+            rw (judged C.fields F.image g) ((accepts_exactly ticket F.image bytes a).1 C)
 
     file_comes_home : FileComesHome ticket file buffer
-    file_comes_home e c k h =
-        let a = accepted_good e c k h in
-        let g = a.2 in
-        rw (judged a.0 a.1 g) (at_home a.0 a.1 g (rw (judged a.0 a.1 g) at h))
+    file_comes_home a h =
+        let known = accepted_good a h in
+        let same = judged known.0 known.1 known.2 in
+        rw same (at_home known.0 known.1 known.2 (rw same at h))
       where
-        at_home : (f : Fields) (image : List ℕ) → Good f image → verdict_of ticket image ≡ Accept e c k
-            → (C : Certified ticket image e c k) × Names C.fields.header.code file image
-            × Demand3 C.fields image c.0 (k.0 - 2)
+        at_home : (f : Fields) (image : List ℕ) → Good f image → verdict_of ticket image ≡ Ok a
+            → (C : Certified ticket image a) × Names C.fields.header.code file image
+            × Demand3 C.fields image a.cost.0 (a.stack.0 - 2)
         at_home f image g h =
-            let d = demand_3 ticket image bytes e c k h in (d.0, certified_names f image g e c k d.0, d.1)
+            let d = demand_3 ticket image bytes a h in (d.0, certified_names f image g a d.0, d.1)
 
     -- a refusal's answer, and its number
     abbrev Answers : Refusal → Type 0
-    Answers r = (records_verdict_of ticket file buffer).answer ≡ Refuse r
+    Answers r = (records_verdict_of ticket file buffer).answer ≡ Err r
 
     abbrev InTables : Refusal → Type 0
     InTables r = VerdictNumber r.number ⊎ Between 25 27 r.number

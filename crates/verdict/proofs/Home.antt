@@ -10,46 +10,42 @@ use native.Mathlib.Omega.{arith}
 use borrow.Author.Tests.{eqb-true}
 use lib.Dec.{eqb}
 use lib.ListN.{length}
+use Rattle.std.specs.Prelude.{Ok, Err}
 use Rattle.registers.specs.declared.Cycles.{Cycles}
 use Rattle.registers.specs.declared.Data.{Data}
-use Rattle.registers.specs.declared.Registers.{Registers}
-use Rattle.registers.specs.declared.StackBytes.{StackBytes}
-use Rattle.answers.specs.declared.Refusal.{Refusal}
+use Rattle.answers.specs.declared.Acceptance.{Acceptance}
 use Rattle.commands.specs.Number.{AllBytes}
 use Rattle.ticket.specs.Fields.{Fields, ReadOutcome, read, refused}
 use Rattle.ticket.specs.Read.{refusal, read_of}
 use Rattle.ticket.proofs.Accepts.{read_rules}
-use Rattle.answers.specs.declared.Verdict.{Verdict}
-use Rattle.answers.specs.declared.Verdict.TheVariants.{Accept, Refuse}
+use Rattle.answers.specs.Verdict.{Verdict}
 use Rattle.rules.specs.Checks.{verdict_on, verdict_by, verdict_of}
 use Rattle.rules.proofs.Sound.{accepted}
 use Rattle.rules.proofs.Demand.{comes_home}
-use Rattle.verdict.specs.declared.Certification.{Certification}
-use Rattle.verdict.specs.declared.Certification.TheVariants as Certification
-use Rattle.verdict.specs.declared.Started.TheVariants.{At, Refused}
-use Rattle.verdict.specs.Certification.{certification_if, certification_by, certification_of, verdict_in}
+use Rattle.verdict.specs.declared.started.Start.{Start}
+use Rattle.verdict.specs.Certification.{Certification, certification_if, certification_by, certification_of}
+use Rattle.verdict.specs.Certification.{verdict_in}
 use Rattle.verdict.specs.Routine.{AfterStart, after_start, start_routine_by, start_routine_of}
 use Rattle.verdict.specs.Routine.{StartCertified, StartedComesHome, StartComesHome, CertificateComesHome}
 use Rattle.verdict.proofs.Claimed.{starts_as_claimed}
 
 module _ (ticket image : List ℕ) (bytes : AllBytes ticket) where
   -- of the fields that were read and accepted
-  start_comes_home : (f : Fields) → read_of ticket ≡ read f → (e : ℕ) (c : Cycles) (k : StackBytes)
-      → verdict_on f image ≡ Accept e c k
+  start_comes_home : (f : Fields) → read_of ticket ≡ read f → (a : Acceptance) → verdict_on f image ≡ Ok a
       → (d : Data) (m : List ℕ) → length m ≡ 65536 → StartComesHome ticket image
-      (record { header = f.header; cost = c; stack = k }) d m
-  start_comes_home f h e c k j d m size =
+      (record { header = f.header; cost = a.cost; stack = a.stack }) d m
+  start_comes_home f h a j d m size =
       let R = read_rules ticket f bytes h in
-      let A = accepted f image R.2 e c k j in
+      let A = accepted f image R.2 a j in
       let L = starts_as_claimed f.header d image m f refl A.0 size in
-      let cost : A.0.start.cost.0 ≡ c.0 = ap (λ (x : Cycles). x.0) (sym A.2) in
-      let need : A.0.start.need.0 ≡ k.0 - 2 = omega (arith, A.3) in (
+      let cost : A.0.start.cost.0 ≡ a.cost.0 = ap (λ (x : Cycles). x.0) (sym A.2) in
+      let need : A.0.start.need.0 ≡ a.stack.0 - 2 = omega (arith, A.3) in (
         _,
         L.0,
         record {
-          entry = e;
-          cost = c;
-          stack = k;
+          entry = a.entry;
+          cost = a.cost;
+          stack = a.stack;
           certified =
               record {
                 fields = f;
@@ -69,14 +65,14 @@ module _ (ticket image : List ℕ) (bytes : AllBytes ticket) where
 
   -- what is to be shown of a certification
   abbrev Homeward : Certification → Type 0
-  Homeward (Certification.Granted c) = (d : Data) (m : List ℕ) → length m ≡ 65536 → StartComesHome ticket image c d m
-  Homeward (Certification.Refused r) = Unit
+  Homeward (Ok c) = (d : Data) (m : List ℕ) → length m ≡ 65536 → StartComesHome ticket image c d m
+  Homeward (Err r) = Unit
 
   -- by the verdict on the fields that were read
   homeward_if : (f : Fields) → read_of ticket ≡ read f → (v : Verdict) → verdict_on f image ≡ v
       → Homeward (certification_if v f.header)
-  homeward_if f h (Refuse x) j = tt
-  homeward_if f h (Accept e c k) j = start_comes_home f h e c k j
+  homeward_if f h (Err x) j = tt
+  homeward_if f h (Ok a) j = start_comes_home f h a j
 
   -- by what reading the ticket gives
   homeward_by : (o : ReadOutcome) → read_of ticket ≡ o → Homeward (certification_by o image)
@@ -90,9 +86,10 @@ module _ (ticket image : List ℕ) (bytes : AllBytes ticket) where
   -- a certification is the verdict, by the same cases
   verdict_if : (f : Fields) → read_of ticket ≡ read f → (v : Verdict) → verdict_on f image ≡ v
       → v ≡ verdict_in (certification_if v f.header)
-  verdict_if f h (Refuse x) j = refl
-  verdict_if f h (Accept e c k) j =
-      let A = accepted f image (read_rules ticket f bytes h).2 e c k j in ap (λ (x : ℕ). Accept x c k) A.1
+  verdict_if f h (Err x) j = refl
+  verdict_if f h (Ok a) j =
+      let A = accepted f image (read_rules ticket f bytes h).2 a j in
+      ap (λ (x : ℕ). Ok (record { entry = x; cost = a.cost; stack = a.stack })) A.1
 
   verdict_by_read : (o : ReadOutcome) → read_of ticket ≡ o → verdict_by o image ≡ verdict_in (certification_by o image)
   verdict_by_read (refused x) h = refl
@@ -106,31 +103,24 @@ pub verdict_certified : (ticket image : List ℕ) → AllBytes ticket
 unfolding verdict_of certification_of
 verdict_certified ticket image bytes = verdict_by_read ticket image bytes (read_of ticket) refl
 
-not_started : (x : Refusal) (r : Registers) (home : ℕ) → Refused x ≡ At r home → ⊥
-not_started x r home h = let z : ◌≡◌ {A = ℕ} 0 1 = cc in omega arith
-
 module _ (ticket image : List ℕ) (d : Data) (m : List ℕ) where
   abbrev Home : AfterStart → Type 0
-  Home b =
-      (r : Registers) (home : ℕ) → b.answer ≡ At r home → StartCertified ticket image r home b.memory
+  Home b = (s : Start) → b.answer ≡ Ok s → StartCertified ticket image s.registers s.home b.memory
 
   -- by the certification
   home_by : (bytes : AllBytes ticket) → length m ≡ 65536 → (a : Certification) → Homeward ticket image bytes a
       → Home (start_routine_by a d image m)
-  home_by bytes size (Certification.Refused x) H r home s = absurd (not_started x r home s)
-  home_by bytes size (Certification.Granted c) H r home s =
+  home_by bytes size (Err x) H s e = absurd cc
+  home_by bytes size (Ok c) H s e =
       let S = H d m size in
-      let same : S.0 ≡ r = cc in
-      let same_home : c.header.home ≡ home = cc in
-      subst (λ (h : ℕ). StartCertified ticket image r h (loaded_of c.header image m)) same_home (rw same at S.2)
+      let same : record { registers = S.0; home = c.header.home } ≡ s = cc in
+      subst (λ (x : Start). StartCertified ticket image x.registers x.home (loaded_of c.header image m)) same S.2
 
   -- by whether the memory has 65,536 bytes
   home_sized : (bytes : AllBytes ticket) (b : Bool) → eqb (length m) 65536 ≡ b
-      → Home
-      (cond b (start_routine_by (certification_of ticket image) d image m) (after_start (Refused (refusal 21 0)) m))
-  home_sized bytes true e r home s =
-      home_by bytes (eqb-true _ _ e) (certification_of ticket image) (homeward ticket image bytes) r home s
-  home_sized bytes false e r home s = absurd (not_started (refusal 21 0) r home s)
+      → Home (cond b (start_routine_by (certification_of ticket image) d image m) (after_start (Err (refusal 21 0)) m))
+  home_sized bytes true e = home_by bytes (eqb-true _ _ e) (certification_of ticket image) (homeward ticket image bytes)
+  home_sized bytes false e s h = absurd cc
 
 pub started_comes_home : (ticket image : List ℕ) → AllBytes ticket → (d : Data) (m : List ℕ) →
     StartedComesHome ticket image d m

@@ -5,7 +5,7 @@ use mathlib.Core.Path.{◌≡◌, refl, sym}
 use mathlib.Core.Logic.{inl, inr}
 use mathlib.Core.Bool.{Bool, true, false, cond, ◌||◌, true≢false}
 use mathlib.Core.List.{List, [], ◌∷◌, ◌++◌}
-use mathlib.Core.Option.{Option, none, some}
+use Rattle.std.specs.Prelude.{Option, Some, None, Result, Ok, Err}
 use native.Mathlib.Omega.{arith}
 use lib.Dec.{eqb, leb, eqb-suc-zero}
 use lib.ListN.{length}
@@ -16,17 +16,15 @@ use Rattle.commands.specs.Progress.{initial_progress, after_of, ended}
 use Rattle.commands.specs.Admit.{admit_of}
 use Rattle.commands.specs.declared.command.Claim.{Claim}
 use Rattle.commands.specs.declared.command.Command.{Command}
-use Rattle.commands.specs.declared.parse.ParsedCommand.{ParsedCommand}
-use Rattle.commands.specs.declared.parse.ParsedCommand.TheVariants.{Unknown, Cut, Found}
+use Rattle.commands.specs.declared.parse.ParseError.{ParseError}
+use Rattle.commands.specs.declared.parse.ParseError.TheVariants.{Unknown, Cut}
 use Rattle.commands.specs.declared.progress.Progress.{Progress}
-use Rattle.commands.specs.declared.admit.Admitted.TheVariants.{Refused, Next}
 use Rattle.ticket.specs.declared.fields.Mark.{Mark}
 use Rattle.ticket.specs.Fields.{Fields, in_file_order}
 use Rattle.ticket.specs.Read.{refusal, admitted_as, parsed_as, next_command_of, end_of, ReadRest, read_onward}
 use Rattle.ticket.specs.Read.{if_ended, read_from}
 use Rattle.ticket.specs.Read.{read_of}
-use Rattle.answers.specs.declared.Verdict.{Verdict}
-use Rattle.answers.specs.declared.Verdict.TheVariants.{Accept, Refuse}
+use Rattle.answers.specs.Verdict.{Verdict}
 use Rattle.rules.specs.Marks.{claim_at}
 use Rattle.rules.specs.Checks.{Check, first_failing, checks_at, checks_of_marks, whole_checks, checks_of, accept_of}
 use Rattle.rules.specs.Checks.{verdict_on}
@@ -37,15 +35,15 @@ abbrev InTable : ℕ → Type 0
 InTable n = (1 ≤ n) × (n ≤ 20)
 
 abbrev OneToTwenty : Verdict → Type 0
-OneToTwenty (Accept entry cost stack) = Unit
-OneToTwenty (Refuse r) = InTable r.number
+OneToTwenty (Ok a) = Unit
+OneToTwenty (Err r) = InTable r.number
 
 abbrev AllInTable : List Check → Type 0
 AllInTable [] = Unit
 AllInTable (c ∷ cs) = InTable c.number × AllInTable cs
 
 either : (b : Bool) (v : Verdict) (n place : ℕ) → OneToTwenty v → InTable n →
-    OneToTwenty (cond b v (Refuse (refusal n place)))
+    OneToTwenty (cond b v (Err (refusal n place)))
 either true v n place rest this = rest
 either false v n place rest this = this
 
@@ -55,8 +53,8 @@ first_numbered (c ∷ cs) v these rest =
     either c.passes (first_failing cs v) c.number c.place (first_numbered cs v these.1 rest) these.0
 
 accept_numbered : (entry : ℕ) (k : Option Claim) → OneToTwenty (accept_of entry k)
-accept_numbered entry none = search arith
-accept_numbered entry (some c) = tt
+accept_numbered entry None = search arith
+accept_numbered entry (Some c) = tt
 
 module _ (f : Fields) (image : List ℕ) where
   checks_numbered : (ms : List Mark) → AllInTable (checks_of_marks f image ms ++ whole_checks f)
@@ -92,12 +90,12 @@ unfolding command_cause_of
 cause_known p c = search picked depth 8
 
 abbrev Numbered : Verdict → Type 0
-Numbered (Accept entry cost stack) = Unit
-Numbered (Refuse r) = VerdictNumber r.number
+Numbered (Ok a) = Unit
+Numbered (Err r) = VerdictNumber r.number
 
 one_of_all : (v : Verdict) → OneToTwenty v → Numbered v
-one_of_all (Accept entry cost stack) t = tt
-one_of_all (Refuse r) t = inl t
+one_of_all (Ok a) t = tt
+one_of_all (Err r) t = inl t
 
 end_numbered : (image : List ℕ) (p : Progress) (ms : List Mark) (s : List ℕ)
     → Numbered (verdict_by (end_of p ms s) image)
@@ -109,16 +107,16 @@ end_numbered image p ms (b ∷ s) = inl (search arith)
 module _ (image : List ℕ) (ms : List Mark) (s : List ℕ) (f : ReadRest)
     (left : (q : Progress) (ks : List Mark) (t : List ℕ) → Numbered (verdict_by (f q ks t) image)) where
   admit_numbered : (p q : Progress) (c : Command) (n : ℕ) → known n ≡ true
-      → Numbered (verdict_by (read_onward (admitted_as (cond (eqb n 0) (Next q) (Refused (refusal n p.at))) c) ms s
+      → Numbered (verdict_by (read_onward (admitted_as (cond (eqb n 0) (Ok q) (Err (refusal n p.at))) c) ms s
       f) image)
   admit_numbered p q c zero k = left q _ _
   admit_numbered p q c (suc n) k = rw eqb-suc-zero (known_says n _ _ refl refl k)
 
-  turn_numbered : (p : Progress) (d : ParsedCommand) → Numbered (verdict_by (read_onward (parsed_as d p) ms s f) image)
+  turn_numbered : (p : Progress) (d : Result Command ParseError) → Numbered (verdict_by (read_onward (parsed_as d p) ms s f) image)
   unfolding admit_of
-  turn_numbered p Unknown = inl (search arith)
-  turn_numbered p Cut = inl (search arith)
-  turn_numbered p (Found c) = admit_numbered p (after_of p c) c (command_cause_of p c) (cause_known p c)
+  turn_numbered p (Err Unknown) = inl (search arith)
+  turn_numbered p (Err Cut) = inl (search arith)
+  turn_numbered p (Ok c) = admit_numbered p (after_of p c) c (command_cause_of p c) (cause_known p c)
 
   rest_numbered : (p : Progress) (ended : Bool) → Numbered (verdict_by (if_ended ended p ms s f) image)
   unfolding next_command_of

@@ -8,37 +8,33 @@ use native.Mathlib.Omega.{arith}
 use lib.Dec.{eqb}
 use lib.ListN.{length}
 use Rattle.registers.specs.declared.Data.{Data}
-use Rattle.registers.specs.declared.Registers.{Registers}
 use Rattle.answers.specs.declared.Refusal.{Refusal}
 use Rattle.commands.specs.declared.header.Header.{Header}
 use Rattle.ticket.specs.Fields.{ReadOutcome, read, refused}
 use Rattle.ticket.specs.Read.{refusal, read_of}
-use Rattle.answers.specs.declared.Verdict.{Verdict}
-use Rattle.answers.specs.declared.Verdict.TheVariants.{Accept, Refuse}
+use Rattle.std.specs.Prelude.{Ok, Err}
+use Rattle.answers.specs.Verdict.{Verdict}
 use Rattle.rules.specs.Checks.{verdict_on, verdict_by, verdict_of}
-use Rattle.verdict.specs.declared.Certification.{Certification}
-use Rattle.verdict.specs.declared.Certification.TheVariants as Certification
-use Rattle.verdict.specs.declared.Started.{Started}
-use Rattle.verdict.specs.declared.Started.TheVariants.{At, Refused}
-use Rattle.verdict.specs.Certification.{certification_if, certification_by, certification_of}
-use Rattle.verdict.specs.Start.{started_of}
+use Rattle.verdict.specs.declared.started.Start.{Start}
+use Rattle.verdict.specs.Certification.{Certification, certification_if, certification_by, certification_of}
+use Rattle.verdict.specs.Start.{Started, started_of}
 use Rattle.verdict.specs.Routine.{after_start, start_routine_by, start_routine_of}
 use Rattle.verdict.proofs.Numbered.{numbered, number_positive}
 
 abbrev RefusesNotZero : Verdict → Type 0
-RefusesNotZero v = (r : Refusal) → v ≡ Refuse r → 1 ≤ r.number
+RefusesNotZero v = (r : Refusal) → v ≡ Err r → 1 ≤ r.number
 
 abbrev CertificationNotZero : Certification → Type 0
-CertificationNotZero (Certification.Granted c) = Unit
-CertificationNotZero (Certification.Refused r) = 1 ≤ r.number
+CertificationNotZero (Ok c) = Unit
+CertificationNotZero (Err r) = 1 ≤ r.number
 
 abbrev NotZero : Started → Type 0
-NotZero (At q home) = Unit
-NotZero (Refused r) = 1 ≤ r.number
+NotZero (Ok s) = Unit
+NotZero (Err r) = 1 ≤ r.number
 
 if_not_zero : (h : Header) (v : Verdict) → RefusesNotZero v → CertificationNotZero (certification_if v h)
-if_not_zero h (Refuse r) p = p r refl
-if_not_zero h (Accept entry cost stack) p = tt
+if_not_zero h (Err r) p = p r refl
+if_not_zero h (Ok a) p = tt
 
 by_not_zero : (image : List ℕ) (o : ReadOutcome) → RefusesNotZero (verdict_by o image)
     → CertificationNotZero (certification_by o image)
@@ -51,15 +47,15 @@ certification_not_zero ticket image =
     by_not_zero image (read_of ticket) (λ r h. number_positive (numbered ticket image r h))
 
 pub certification_numbered : (ticket image : List ℕ) (r : Refusal)
-    → certification_of ticket image ≡ Certification.Refused r → 1 ≤ r.number
+    → certification_of ticket image ≡ Err r → 1 ≤ r.number
 certification_numbered ticket image r h = rw h at (certification_not_zero ticket image)
 
 -- by the start's two tests
-tests_not_zero : (a b : Bool) (q : Registers) (home : ℕ) → NotZero (cond a (cond b (At q home) (Refused (refusal 9 0)))
-    (Refused (refusal 21 0)))
-tests_not_zero true true q home = tt
-tests_not_zero true false q home = omega arith
-tests_not_zero false b q home = omega arith
+tests_not_zero : (a b : Bool) (s : Start)
+    → NotZero (cond a (cond b (Ok s) (Err (refusal 9 0))) (Err (refusal 21 0)))
+tests_not_zero true true s = tt
+tests_not_zero true false s = omega arith
+tests_not_zero false b s = omega arith
 
 module _ (image : List ℕ) (d : Data) (m : List ℕ) where
   started_not_zero : (h : Header) → NotZero (started_of h d image m)
@@ -67,21 +63,21 @@ module _ (image : List ℕ) (d : Data) (m : List ℕ) where
   started_not_zero h = search tests_not_zero
 
   start_not_zero : (a : Certification) → CertificationNotZero a → NotZero (start_routine_by a d image m).answer
-  start_not_zero (Certification.Refused r) p = p
-  start_not_zero (Certification.Granted c) p = started_not_zero c.header
+  start_not_zero (Err r) p = p
+  start_not_zero (Ok c) p = started_not_zero c.header
 
   -- nor a start's, by any header
-  pub started_numbered : (h : Header) (r : Refusal) → started_of h d image m ≡ Refused r → 1 ≤ r.number
+  pub started_numbered : (h : Header) (r : Refusal) → started_of h d image m ≡ Err r → 1 ≤ r.number
   started_numbered h r e = rw e at (started_not_zero h)
 
   -- by whether the memory has 65,536 bytes
   sized_not_zero : (b : Bool) (a : Certification) → CertificationNotZero a
-      → NotZero (cond b (start_routine_by a d image m) (after_start (Refused (refusal 21 0)) m)).answer
+      → NotZero (cond b (start_routine_by a d image m) (after_start (Err (refusal 21 0)) m)).answer
   sized_not_zero true a p = start_not_zero a p
   sized_not_zero false a p = omega arith
 
 pub start_numbered : (ticket image : List ℕ) (d : Data) (m : List ℕ) (r : Refusal) →
-    (start_routine_of ticket image d m).answer ≡ Refused r → 1 ≤ r.number
+    (start_routine_of ticket image d m).answer ≡ Err r → 1 ≤ r.number
 unfolding start_routine_of
 start_numbered ticket image d m r h =
     let n = certification_not_zero ticket image in
