@@ -35,7 +35,8 @@ fn with(latest: Option<u16>, c: Command) -> Option<u16> {
     }
 }
 
-// The address of the latest mark before an offset at which a command begins.
+// The address of the latest mark before an offset at which a command begins. A command has at least one byte.
+#[tactic(auto, unfolding(commands::specs::Bytes::width_of))]
 fn mark_before(ticket: &[u8], place: u32) -> Option<u16> {
     let mut latest = None;
     let mut at: usize = 0;

@@ -3,8 +3,5 @@
 use Rattle.std.proofs.Common.{◌-◌}
 use Rattle.explain.proofs.command.mark_before.Given as goal
 
-abbrev pub invariant-loop-at : goal.invariant-loop-at
-invariant-loop-at l = Unit
-
 abbrev pub decreases-loop-at : goal.decreases-loop-at
 decreases-loop-at l = l.place - l.at
