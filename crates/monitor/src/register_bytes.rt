@@ -3,36 +3,39 @@
 ghost use Rattle.std.specs.Prelude.{◌≡◌};
 ghost use Rattle.monitor.specs.RegisterBytes.{packed, unpacked};
 
-use crate::big_endian::{put_word, word_in};
 use registers::Registers;
 
 pub type RegisterBytes = [u8; 13];
 
 // No From: neither type is this crate's.
+#[tactic(auto, unfolding(crate::specs::RegisterBytes::unpacked))]
 pub fn unpack(regs: &RegisterBytes) -> Registers
     ensures { result ≡ unpacked regs.now }
 {
+    let [a, b, x_high, x_low, y_high, y_low, sp_high, sp_low, pc_high, pc_low, flags, lowest_high, lowest_low] =
+        *regs;
     Registers {
-        x: word_in(regs, 2),
-        y: word_in(regs, 4),
-        sp: word_in(regs, 6),
-        pc: word_in(regs, 8),
-        lowest: word_in(regs, 11),
-        a: regs[0],
-        b: regs[1],
-        flags: regs[10],
+        x: u16::from_be_bytes([x_high, x_low]),
+        y: u16::from_be_bytes([y_high, y_low]),
+        sp: u16::from_be_bytes([sp_high, sp_low]),
+        pc: u16::from_be_bytes([pc_high, pc_low]),
+        lowest: u16::from_be_bytes([lowest_high, lowest_low]),
+        a,
+        b,
+        flags,
     }
 }
 
+#[tactic(auto, unfolding(crate::specs::RegisterBytes::packed))]
 pub fn pack(r: Registers, regs: &mut RegisterBytes)
     ensures { regs.new ≡ packed r }
 {
-    put_word(regs, 2, r.x);
-    put_word(regs, 4, r.y);
-    put_word(regs, 6, r.sp);
-    put_word(regs, 8, r.pc);
-    put_word(regs, 11, r.lowest);
-    regs[0] = r.a;
-    regs[1] = r.b;
-    regs[10] = r.flags;
+    let [x_high, x_low] = r.x.to_be_bytes();
+    let [y_high, y_low] = r.y.to_be_bytes();
+    let [sp_high, sp_low] = r.sp.to_be_bytes();
+    let [pc_high, pc_low] = r.pc.to_be_bytes();
+    let [lowest_high, lowest_low] = r.lowest.to_be_bytes();
+    *regs = [
+        r.a, r.b, x_high, x_low, y_high, y_low, sp_high, sp_low, pc_high, pc_low, r.flags, lowest_high, lowest_low,
+    ];
 }

@@ -25,6 +25,7 @@ fn window_in(slot: &[u8], at: usize) -> Window
     }
 }
 
+#[tactic(auto, unfolding(crate::specs::Slot::header_in))]
 fn header_in(slot: &Slot) -> Header
     ensures { result ≡ header_in slot.now }
 {
