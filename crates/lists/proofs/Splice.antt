@@ -6,15 +6,9 @@ use native.Mathlib.Nat.{add-zero, add_assoc}
 use native.Mathlib.Omega.{arith}
 use mathlib.Core.List.{List, [], ◌++◌, append_assoc}
 use lib.ListN.{length, take, drop, length-append, take-append-drop}
-use lib.Seq.{take_at, drop_at, drop-drop, length-take-le, paste}
+use lib.Seq.{take_at, drop_at, drop-drop, length-take-le}
 use borrow.Rule.Slice.PartMut.{put_mid}
 use Rattle.lists.specs.Splice.{spliced}
-
--- a copy of the first n bytes, if these are a
-pub paste_spliced : (old : List ℕ) (at : ℕ) (a b : List ℕ) (n : ℕ) → length a ≡ n →
-    paste old at (a ++ b) n ≡ spliced old at a
-unfolding spliced
-paste_spliced old at a b n e = rw (take_at a b n e, append_assoc, e)
 
 -- a part written over, of as many bytes
 pub put_spliced : (old : List ℕ) (at k : ℕ) (s new : List ℕ) → new ≡ s → k ≡ length s →

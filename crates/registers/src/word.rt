@@ -1,5 +1,5 @@
 // The register arithmetic of the manual: PC, SP and the address of an indexed operand wrap at 65,536. A comparison does
-// not.
+// not. Beside std's methods these stay for their promises, which speak the definitions' words.
 ghost use Rattle.std.specs.Prelude.{◌≡◌};
 ghost use Rattle.registers.specs.Word.{wrapping_add, wrapping_sub, target_of, smaller_of};
 
