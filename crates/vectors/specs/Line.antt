@@ -3,6 +3,7 @@
 -- Assumes nothing.
 use Rattle.std.specs.Prelude.{◌≡◌, ℕ, ◌+◌, ◌-◌, ◌*◌, ◌%◌, ◌<◌, ◌≤◌, Bool, true, cond, ◌||◌, List, length, ◌==◌, nat_lt}
 use Rattle.std.specs.Prelude.{slice_index}
+use Rattle.std.specs.Option.{is_some}
 use Rattle.vectors.specs.Hex.{digit_of, hex_byte_in}
 
 -- K, C, N and W; the bytes listed start at 63, and W stands after them
@@ -24,7 +25,7 @@ space_due n i =
 
 -- whether a byte is the space or the digit that is due at its place
 unfoldable pub is_due : ℕ → ℕ → ℕ → Bool
-is_due n i c = cond (space_due n i) (c == 32) (nat_lt (digit_of c) 16)
+is_due n i c = cond (space_due n i) (c == 32) (is_some (digit_of c))
 
 abbrev pub Due : ℕ → List ℕ → ℕ → Type 0
 Due n s i = is_due n i (slice_index s i) ≡ true

@@ -1,14 +1,12 @@
 -- The lines of a text, byte by byte: what is read of the last line, and what is counted of those before it
 -- (docs/SIMULATORS.md, "The file").
 -- Assumes nothing.
-use Rattle.std.specs.Prelude.{◌≡◌, ℕ, ◌<◌, ◌≤◌, List, [], ◌∷◌, ◌++◌, length, take, ◌≢◌}
+use Rattle.std.specs.Prelude.{◌≡◌, ℕ, ◌<◌, List, [], ◌∷◌, ◌++◌, length, take, ◌≢◌}
 use Rattle.vectors.specs.Line.{kind_in}
 use Rattle.vectors.specs.Vector.{Compared}
 use Rattle.vectors.specs.Count.{counted_of}
 use Rattle.vectors.specs.declared.count.Counts.{Counts}
-use Rattle.vectors.specs.declared.reader.Read.{Read}
-use Rattle.vectors.specs.declared.reader.State.{State}
-use Rattle.vectors.specs.declared.reader.Read.TheVariants.{More, End, Failed}
+use Rattle.vectors.specs.declared.reader.Reader.{Reader}
 use Rattle.vectors.specs.declared.comparison.Comparison.{Comparison}
 
 -- a line is counted by what comes of it
@@ -22,9 +20,9 @@ pub record LineReading : Type 0 where
 abbrev pub reading : List ℕ → Counts → LineReading
 reading l c = record { line = l; counts = c }
 
--- what a state and the buffer hold
-abbrev pub held : State → List ℕ → LineReading
-held st buffer = reading (take st.filled buffer) st.counts
+-- what a reader holds
+abbrev pub held : Reader → LineReading
+held r = reading (take r.filled r.buffer) r.counts
 
 -- one byte more. A line feed ends a line. 256 bytes of a line are kept: no vector is as long, so a longer line is
 -- malformed
@@ -38,9 +36,3 @@ pub data Next : ℕ → LineReading → LineReading → Type 0 where
 pub data ReadsLines : List ℕ → LineReading → LineReading → Type 0 where
   none : {p : LineReading} → ReadsLines [] p p
   then : {b : ℕ} {t : List ℕ} {p p' q : LineReading} → Next b p p' → ReadsLines t p' q → ReadsLines (b ∷ t) p q
-
--- what a read leaves fits the buffer
-abbrev pub Within : Read → Type 0
-Within (More q) = q.filled ≤ 256
-Within End = Unit
-Within Failed = Unit

@@ -4,7 +4,6 @@ ghost use Rattle.std.specs.Prelude.{◌≡◌, ◌<◌, slice_index, slice_set};
 ghost use Rattle.vectors.specs.Count.{next, none, confirmed_of, counted_of};
 
 use crate::comparison::Comparison;
-use std::num::wrapping_add_u32;
 
 #[derive(Clone, Copy)]
 pub struct Counts {
@@ -35,23 +34,28 @@ pub fn none() -> Counts
 fn confirmed(c: Counts, kind: u8) -> Counts
     ensures { result ≡ confirmed_of c kind }
 {
-    let mut n = c;
-    n.vectors = wrapping_add_u32(n.vectors, 1);
+    let n = Counts {
+        vectors: c.vectors.wrapping_add(1),
+        ..c
+    };
     match kind {
-        0 => {
-            n.neither = wrapping_add_u32(n.neither, 1);
-        }
-        1 => {
-            n.gnu = wrapping_add_u32(n.gnu, 1);
-        }
-        2 => {
-            n.mame = wrapping_add_u32(n.mame, 1);
-        }
-        _ => {
-            n.both = wrapping_add_u32(n.both, 1);
-        }
+        0 => Counts {
+            neither: n.neither.wrapping_add(1),
+            ..n
+        },
+        1 => Counts {
+            gnu: n.gnu.wrapping_add(1),
+            ..n
+        },
+        2 => Counts {
+            mame: n.mame.wrapping_add(1),
+            ..n
+        },
+        _ => Counts {
+            both: n.both.wrapping_add(1),
+            ..n
+        },
     }
-    n
 }
 
 // A line of a kind, with what comes of it.
@@ -59,15 +63,16 @@ pub fn counted(c: Counts, kind: u8, v: Comparison) -> Counts
     ensures { result ≡ counted_of c kind v }
 {
     match v {
-        Comparison::Malformed => {
-            let mut n = c;
-            n.malformed = wrapping_add_u32(n.malformed, 1);
-            n
-        }
+        Comparison::Malformed => Counts {
+            malformed: c.malformed.wrapping_add(1),
+            ..c
+        },
         Comparison::Differs => {
-            let mut n = confirmed(c, kind);
-            n.differences = wrapping_add_u32(n.differences, 1);
-            n
+            let n = confirmed(c, kind);
+            Counts {
+                differences: n.differences.wrapping_add(1),
+                ..n
+            }
         }
         Comparison::Agrees => confirmed(c, kind),
     }
@@ -80,5 +85,5 @@ pub fn note(places: &mut [u32; 1024], place: u16)
         ≡ slice_set places.old place (next (slice_index places.old place)) }
 {
     let i = place as usize;
-    places[i] = wrapping_add_u32(places[i], 1);
+    places[i] = places[i].wrapping_add(1);
 }

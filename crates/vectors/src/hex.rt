@@ -1,35 +1,28 @@
 // Upper-case hexadecimal digits in a line, and the bytes, words and registers that they spell. An inner module of those
 // that read a line: its functions require that the digits are there.
-ghost use Rattle.std.specs.Prelude.{◌≡◌, ◌+◌, ◌<◌, ◌≤◌, length};
+ghost use Rattle.std.specs.Prelude.{◌≡◌, ◌+◌, ◌<◌, ◌≤◌, length, IfSome};
 ghost use Rattle.vectors.specs.Hex.{digit_of, value_in, hex_byte_in, hex_word_in, registers_in};
 
 use registers::Registers;
 
-// The value of a digit; 16 where the byte is none.
+// The value of a digit: of upper case alone, where that of `lists` is of either.
 #[tactic(auto, unfolding(crate::specs::Hex::digit_of))]
-pub fn digit(c: u8) -> u8
-    ensures { (result ≡ digit_of c) × (result ≤ 16) }
+pub fn digit(c: u8) -> Option<u8>
+    ensures value { result ≡ digit_of c }
+    ensures small { IfSome result (λ d. d ≤ 15) }
 {
-    if c < b'0' {
-        return 16;
+    match c {
+        b'0'..=b'9' => Some(c - b'0'),
+        b'A'..=b'F' => Some(c - b'A' + 10),
+        _ => None,
     }
-    if c <= b'9' {
-        return c - b'0';
-    }
-    if c < b'A' {
-        return 16;
-    }
-    if c <= b'F' {
-        return c - 55;
-    }
-    16
 }
 
 fn value_in(s: &[u8], i: usize) -> u8
     requires { i < length s.now }
     ensures { (result ≡ value_in s.now i) × (result ≤ 15) }
 {
-    digit(s[i]) % 16
+    digit(s[i]).unwrap_or(0)
 }
 
 #[tactic(auto, unfolding(crate::specs::Hex::hex_byte_in))]

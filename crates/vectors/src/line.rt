@@ -1,8 +1,15 @@
 // The shape of a line: a space or a digit at each place, and the length that its counts ask for.
-ghost use Rattle.std.specs.Prelude.{◌≡◌, ◌≤◌, true, ◌↔◌};
+ghost use Rattle.std.specs.Prelude.{◌≡◌, ◌≤◌, true, ◌↔◌, MatchOption};
 ghost use Rattle.vectors.specs.Line.{space_due, is_due, AllDue, Shaped};
 
 use crate::hex::{digit, hex_byte_in};
+
+// A line of the format.
+#[derive(Clone, Copy)]
+pub struct Line<'a> {
+    pub text: &'a [u8],
+    ghost shaped: { Shaped text.now },
+}
 
 #[tactic(auto, unfolding(crate::specs::Line::space_due))]
 fn space_due(n: usize, i: usize) -> bool
@@ -10,7 +17,7 @@ fn space_due(n: usize, i: usize) -> bool
     ensures { result ≡ space_due n i }
 {
     if i < 63 {
-        return (i == 2) | ((i == 5) | ((i == 32) | ((i == 59) | (i == 62))));
+        return matches!(i, 2 | 5 | 32 | 59 | 62);
     }
     if i < 63 + 7 * n {
         return (i - 63) % 7 == 6;
@@ -26,7 +33,7 @@ fn is_due(n: usize, i: usize, c: u8) -> bool
     if space_due(n, i) {
         c == b' '
     } else {
-        digit(c) < 16
+        digit(c).is_some()
     }
 }
 
@@ -35,18 +42,16 @@ fn all_due(s: &[u8], n: usize) -> bool
     requires { n ≤ 16 }
     ensures { (result ≡ true) ↔ (AllDue n s.now) }
 {
-    let mut i = 0;
-    while i < s.len() {
-        if !is_due(n, i, s[i]) {
+    for (i, c) in s.iter().enumerate() {
+        if !is_due(n, i, *c) {
             return false;
         }
-        i += 1;
     }
     true
 }
 
 // Whether a line is of the format.
-pub fn shaped(s: &[u8]) -> bool
+fn shaped(s: &[u8]) -> bool
     ensures { (result ≡ true) ↔ (Shaped s.now) }
 {
     if s.len() < 72 {
@@ -73,4 +78,15 @@ pub fn shaped(s: &[u8]) -> bool
         return false;
     }
     all_due(s, n)
+}
+
+// The same as a line.
+pub fn line_in(s: &[u8]) -> Option<Line<'_>>
+    ensures { MatchOption result (Shaped s.now → ⊥) (λ l. l.text.now ≡ s.now) }
+{
+    if shaped(s) {
+        Some(Line { text: s })
+    } else {
+        None
+    }
 }

@@ -2,8 +2,8 @@
 // agrees.
 #![tactic(auto)]
 
-use count::Counts;
 use output::{counted, text};
+use reader::Reader;
 use std::fs;
 
 mod hex; // digits, bytes, words and registers in a line
@@ -16,13 +16,14 @@ mod reader; // the lines of a file
 mod report; // a difference
 mod places; // the opcode maps
 
-fn summary(rt: &impl Print, c: Counts, places: &[u32; 1024]) {
+fn summary(rt: &impl Print, r: &Reader) {
+    let c = r.counts;
     counted(rt, b"vectors: ", c.vectors as u64);
     counted(rt, b"confirmed by GNU's simulator only: ", c.gnu as u64);
     counted(rt, b"confirmed by MAME's only: ", c.mame as u64);
     counted(rt, b"confirmed by both: ", c.both as u64);
     counted(rt, b"confirmed by neither alone: ", c.neither as u64);
-    places::report(rt, places);
+    places::report(rt, &r.places);
     counted(rt, b"malformed lines: ", c.malformed as u64);
     counted(rt, b"differences: ", c.differences as u64);
 }
@@ -32,10 +33,9 @@ fn main(rt: HostRuntime) {
         text(&rt, b"vectors.txt: CANNOT BE OPENED\n");
         return;
     };
-    let mut places = [0u32; 1024];
-    let c = reader::read_all(&rt, &mut file, &mut places);
-    if (c.vectors == 0) & (c.malformed == 0) {
+    let r = reader::read_all(&rt, &mut file);
+    if (r.counts.vectors == 0) & (r.counts.malformed == 0) {
         text(&rt, b"vectors.txt: EMPTY\n");
     }
-    summary(&rt, c, &places);
+    summary(&rt, &r);
 }

@@ -5,8 +5,6 @@ use check::same;
 use memory::put_byte;
 use output::{counted, decimal, text};
 use registers::Registers;
-use std::num::wrapping_add_u32;
-use stepper::answer::Stepped;
 use stepper::step;
 
 // What a step at $8000 comes to, with a refusal only where it names PC and kept memory.
@@ -19,11 +17,8 @@ enum Stands {
 }
 
 fn refused(x: Refusal, kept: bool) -> Stands {
-    if !kept | (x.place != 0x8000) {
-        return Stands::Wrong;
-    }
-    let number = x.number;
-    match number {
+    match x.number {
+        _ if !kept | (x.place != 0x8000) => Stands::Wrong,
         22 => Stands::Empty,
         23 => Stands::Waits,
         _ => Stands::Wrong,
@@ -36,11 +31,12 @@ fn tried(first: u8, second: u8) -> Stands {
     put_byte(&mut mem, 0x8001, second);
     let was = mem;
     match step(Registers::reset().with_pc(0x8000), &mut mem) {
-        Stepped::Done(_, _) => Stands::Done,
-        Stepped::Refused(x) => refused(x, same(&was, &mem)),
+        Ok(_) => Stands::Done,
+        Err(x) => refused(x, same(&was, &mem)),
     }
 }
 
+// The byte that leads to a map; as in listings, with which this program shares no library that lists the maps.
 fn prefix(map: usize) -> u8 {
     match map {
         1 => 0x18,
@@ -68,26 +64,23 @@ struct Tally {
 }
 
 fn tallied(t: Tally, s: Stands, vectors: u32) -> Tally {
-    let mut n = t;
     match s {
-        Stands::Done => {
-            n.done = wrapping_add_u32(n.done, 1);
-            if 0 < vectors {
-                n.covered = wrapping_add_u32(n.covered, 1);
-            }
-            if vectors < 100 {
-                n.few = wrapping_add_u32(n.few, 1);
-            }
-        }
-        Stands::Waits => {
-            n.waits = wrapping_add_u32(n.waits, 1);
-        }
-        Stands::Empty => {}
-        Stands::Wrong => {
-            n.wrong = wrapping_add_u32(n.wrong, 1);
-        }
+        Stands::Done => Tally {
+            done: t.done.wrapping_add(1),
+            covered: t.covered.wrapping_add(u32::from(0 < vectors)),
+            few: t.few.wrapping_add(u32::from(vectors < 100)),
+            ..t
+        },
+        Stands::Waits => Tally {
+            waits: t.waits.wrapping_add(1),
+            ..t
+        },
+        Stands::Empty => t,
+        Stands::Wrong => Tally {
+            wrong: t.wrong.wrapping_add(1),
+            ..t
+        },
     }
-    n
 }
 
 fn tally_all(places: &[u32; 1024]) -> Tally {
@@ -98,17 +91,14 @@ fn tally_all(places: &[u32; 1024]) -> Tally {
         covered: 0,
         few: 0,
     };
-    for i in 0..1024usize {
-        t = tallied(t, tried_at(i), places[i]);
+    for (place, vectors) in places.iter().enumerate() {
+        t = tallied(t, tried_at(place), *vectors);
     }
     t
 }
 
 fn waits(first: u8) -> bool {
-    match tried(first, 0) {
-        Stands::Waits => true,
-        _ => false,
-    }
+    matches!(tried(first, 0), Stands::Waits)
 }
 
 // WAI, STOP and TEST, and no other instruction.
@@ -126,7 +116,7 @@ pub fn report(rt: &impl Print, places: &[u32; 1024]) {
     text(rt, b"places: ");
     decimal(rt, t.covered as u64);
     text(rt, b" of ");
-    decimal(rt, wrapping_add_u32(t.done, t.waits) as u64);
+    decimal(rt, t.done.wrapping_add(t.waits) as u64);
     text(rt, b"\n");
     counted(rt, b"places with fewer than 100 vectors: ", t.few as u64);
     waiting(rt, t.waits);
