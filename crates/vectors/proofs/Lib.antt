@@ -1,4 +1,3 @@
 pub mod Text
-pub mod Alike
 pub mod Stores
 pub mod Agreeing
