@@ -1,3 +1,2 @@
 pub mod Sited
-pub mod Arms
 pub mod Waiting

@@ -27,6 +27,7 @@ use opcodes::instruction::{Accumulator, Binary, Index, Inherent, Unary, Word};
 use registers::Registers;
 
 // 0 to 29: the registers alone.
+#[tactic(auto, unfolding(instructions::proofs::Effects::opened))]
 fn on_registers(n: u8, r: Registers) -> Registers
     requires { n < 30 }
     ensures { Leaves (action_of n) r result }
@@ -115,6 +116,7 @@ fn on_stack(n: u8, r: Registers, mem: &mut Memory) -> Registers
 }
 
 // 67 to 96: an operand is read at its address.
+#[tactic(auto, unfolding(instructions::specs::inner::Sited::Sited))]
 fn on_operand(n: u8, at: u16, r: Registers, mem: &Memory) -> Registers
     requires le_n { 67 ≤ n }
     requires n_bound { n < 97 }
@@ -156,6 +158,7 @@ fn on_operand(n: u8, at: u16, r: Registers, mem: &Memory) -> Registers
 }
 
 // 97 to 134: an operand's address is written to or gone to, or its bits are tested.
+#[tactic(auto, unfolding(instructions::specs::inner::Sited::Sited))]
 fn on_address(n: u8, at: u16, from: u16, r: Registers, mem: &mut Memory) -> Registers
     requires le_n { 97 ≤ n }
     requires n_bound { n < 135 }
