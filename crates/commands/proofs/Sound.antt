@@ -14,14 +14,14 @@ use Rattle.commands.specs.Rows.{header_length}
 use Rattle.commands.specs.Bytes.{width_of}
 use Rattle.commands.specs.Command.{stage_of}
 use Rattle.commands.specs.Progress.{initial_progress, staged_of, marked_of, named_of, after_of}
-use Rattle.commands.specs.inner.Sound.{header_bytes, Sound, SoundSoFar, stopped, sound}
+use Rattle.commands.specs.inner.Sound.{header_bytes, Sound}
 use Rattle.commands.specs.Cause.{command_cause_of}
-use Rattle.commands.specs.Admit.{admit_of, then_of}
+use Rattle.commands.specs.Admit.{admit_of}
 use Rattle.commands.specs.declared.command.Command.{Command}
 use Rattle.answers.specs.declared.Refusal.{Refusal}
 use Rattle.commands.specs.declared.header.Header.{Header}
 use Rattle.commands.specs.declared.progress.Progress.{Progress}
-use Rattle.std.specs.Prelude.{Result, Ok, Err}
+use Rattle.std.specs.Prelude.{Ok, Err}
 use Rattle.commands.proofs.Causes.{in_order_parts, Allowed, allowed}
 use Rattle.commands.proofs.Coding.{width_most}
 use Rattle.commands.proofs.HeaderLaw.{header_law}
@@ -128,16 +128,13 @@ module _ (p : Progress) (s : Sound p) where
 pub sound_after : (p : Progress) (c : Command) → Sound p → command_cause_of p c ≡ 0 → Sound (after_of p c)
 sound_after p c s e = after p s c (allowed p c e)
 
-module _ (p : Progress) (c : Command) (s : Sound p) where
-  picked : (r : Refusal) (b : Bool) → eqb (command_cause_of p c) 0 ≡ b →
-      SoundSoFar (cond b (Ok (after_of p c)) (Err r))
-  picked r true e = sound (sound_after p c s (eqb-true _ _ e))
-  picked r false e = stopped
+-- what an admitted command leaves is sound
+module _ (p q : Progress) (c : Command) (s : Sound p) where
+  picked : (r : Refusal) (b : Bool) → eqb (command_cause_of p c) 0 ≡ b → cond b (Ok (after_of p c)) (Err r) ≡ Ok q
+      → Sound q
+  picked r true e f = let same : after_of p c ≡ q = cc in rw (← same) (sound_after p c s (eqb-true _ _ e))
+  picked r false e f = let none : ◌≡◌ {A = ℕ} 0 1 = cc in absurd (omega arith)
 
-  admitted : SoundSoFar (admit_of p c)
+  pub sound_admit : admit_of p c ≡ Ok q → Sound q
   unfolding admit_of
-  admitted = picked _ _ refl
-
-pub sound_then : (a : Result Progress Refusal) (c : Command) → SoundSoFar a → SoundSoFar (then_of a c)
-sound_then (Err r) c stopped = stopped
-sound_then (Ok p) c (sound s) = admitted p c s
+  sound_admit f = picked _ _ refl f

@@ -8,23 +8,22 @@ use mathlib.Core.List.{List, [], ◌∷◌}
 use lib.ListN.{length, drop}
 use Rattle.commands.specs.declared.command.Command.{Command}
 use Rattle.answers.specs.declared.Refusal.{Refusal}
-use Rattle.commands.specs.declared.parse.ParsedCommand.TheVariants.{Found}
 use Rattle.commands.specs.declared.progress.Progress.{Progress}
 use Rattle.commands.specs.Bytes.{parse_of, width_of}
 use Rattle.commands.specs.Cause.{command_cause_of}
 use Rattle.commands.specs.Progress.{initial_progress, after_of, ended}
 use Rattle.ticket.specs.declared.fields.Mark.{Mark}
-use Rattle.ticket.specs.declared.reader.NextCommand.{NextCommand}
 use Rattle.ticket.specs.Fields.{Fields, read, refused, marks_with, in_file_order}
-use Rattle.ticket.specs.Read.{next_command_of, end_of, ReadRest, read_onward, if_ended, read_from, read_of}
+use Rattle.ticket.specs.Read.{NextCommand, next_command_of, end_of, ReadRest, read_onward, if_ended, read_from, read_of}
 use Rattle.ticket.proofs.Turned.{turned}
+use Rattle.std.specs.Prelude.{Ok, Err}
 
 -- from progress and its marks, over some bytes, by some commands, to the fields
 pub data Course : Progress → List Mark → List ℕ → List Command → Fields → Type 0 where
   done : {p : Progress} {ms : List Mark} → ended p ≡ true → Course p ms [] []
       (record { header = p.header; marks = in_file_order ms })
   goes : {p : Progress} {ms : List Mark} {s : List ℕ} {c : Command} {cs : List Command} {f : Fields} →
-      parse_of s ≡ Found c → command_cause_of p c ≡ 0
+      parse_of s ≡ Ok c → command_cause_of p c ≡ 0
       → Course (after_of p c) (marks_with ms c) (drop (width_of c) s) cs f → Course p ms s (c ∷ cs) f
 
 abbrev pub Commanded : Progress → List Mark → List ℕ → Fields → Type 0
@@ -44,8 +43,8 @@ module _ (p : Progress) (ms : List Mark) (f : Fields) (rest : ReadRest)
 
   module _ (s : List ℕ) where
     at_command : (t : NextCommand) → next_command_of s p ≡ t → read_onward t ms s rest ≡ read f → Commanded p ms s f
-    at_command (NextCommand.Refused x) e r = absurd (unread r)
-    at_command (NextCommand.Next q c) e r =
+    at_command (Err x) e r = absurd (unread r)
+    at_command (Ok (q, c)) e r =
         let t = turned s p q c e in
         let k = known (after_of p c) (marks_with ms c) (drop (width_of c) s) (rw t.next at r) in
         (c ∷ k.0, goes t.found t.free k.1)

@@ -9,10 +9,9 @@ use lib.Dec.{eqb}
 use lib.ListN.{length, drop, length-drop}
 use borrow.Author.Tests.{le-ltb}
 use Rattle.commands.specs.declared.command.Command.{Command}
-use Rattle.commands.specs.declared.parse.ParsedCommand.{ParsedCommand}
-use Rattle.commands.specs.declared.parse.ParsedCommand.TheVariants.{Unknown, Cut, Found}
+use Rattle.commands.specs.declared.parse.ParseError.{ParseError}
+use Rattle.commands.specs.declared.parse.ParseError.TheVariants.{Unknown, Cut}
 use Rattle.commands.specs.declared.progress.Progress.{Progress}
-use Rattle.commands.specs.declared.admit.Admitted.TheVariants.{Refused, Next}
 use Rattle.commands.specs.Rows.{header_length}
 use Rattle.commands.specs.Bytes.{parse_of, width_of}
 use Rattle.commands.specs.Progress.{after_of, ended}
@@ -24,6 +23,7 @@ use Rattle.ticket.specs.Fields.{marks_with}
 use Rattle.ticket.specs.Read.{refusal, admitted_as, parsed_as, next_command_of, end_of, read_onward, if_ended}
 use Rattle.ticket.specs.Read.{read_from}
 use Rattle.ticket.specs.OldTicket.{moved_place, moved}
+use Rattle.std.specs.Prelude.{Result, Ok, Err}
 
 -- the same progress n bytes later, at another stage, and perhaps another latest command
 abbrev pub later : Progress → (n stage : ℕ) (nameable : Bool) → Progress
@@ -32,7 +32,7 @@ later p n k b =
 
 -- of both the command that some bytes begin with is in order, or of none
 abbrev pub Alike : Progress → Progress → List ℕ → Type 0
-Alike p q s = (c : Command) → parse_of s ≡ Found c → in_order q c ≡ in_order p c
+Alike p q s = (c : Command) → parse_of s ≡ Ok c → in_order q c ≡ in_order p c
 
 module _ (p : Progress) (n k : ℕ) (b : Bool) (c : Command) where
   pub same_cause : in_order (later p n k b) c ≡ in_order p c → command_cause_of (later p n k b) c ≡ command_cause_of p c
@@ -68,22 +68,22 @@ module _ (from n : ℕ) where
 
     -- one turn, with what is known of the rest
     module _ (l m : ℕ) (ms : List Mark) (s : List ℕ) (alike : Alike p (later p n k b) s)
-        (rest : (c : Command) → parse_of s ≡ Found c → read_from m (after_of (later p n k b) c) (marks_with ms c)
+        (rest : (c : Command) → parse_of s ≡ Ok c → read_from m (after_of (later p n k b) c) (marks_with ms c)
         (drop (width_of c) s) ≡ moved from n (read_from l (after_of p c) (marks_with ms c) (drop (width_of c) s))) where
-      by_cause : (c : Command) → parse_of s ≡ Found c → (v : ℕ) (t : Bool)
-          → let old = cond t (Next (after_of p c)) (Refused (refusal v p.at)) in
-          let new = cond t (Next (after_of (later p n k b) c)) (Refused (refusal v (p.at + n))) in
+      by_cause : (c : Command) → parse_of s ≡ Ok c → (v : ℕ) (t : Bool)
+          → let old = cond t (Ok (after_of p c)) (Err (refusal v p.at)) in
+          let new = cond t (Ok (after_of (later p n k b) c)) (Err (refusal v (p.at + n))) in
           read_onward (admitted_as new c) ms s (read_from m)
           ≡ moved from n (read_onward (admitted_as old c) ms s (read_from l))
       by_cause c f v true = rest c f
       by_cause c f v false = rw (moved_at v)
 
-      by_parsed : (d : ParsedCommand) → parse_of s ≡ d → read_onward (parsed_as d (later p n k b)) ms s (read_from m)
+      by_parsed : (d : Result Command ParseError) → parse_of s ≡ d → read_onward (parsed_as d (later p n k b)) ms s (read_from m)
           ≡ moved from n (read_onward (parsed_as d p) ms s (read_from l))
       unfolding admit_of
-      by_parsed Unknown f = rw (moved_at 1)
-      by_parsed Cut f = rw (moved_at 2)
-      by_parsed (Found c) f =
+      by_parsed (Err Unknown) f = rw (moved_at 1)
+      by_parsed (Err Cut) f = rw (moved_at 2)
+      by_parsed (Ok c) f =
           rw (same_cause p n k b c (alike c f)) (by_cause c f (command_cause_of p c) (eqb (command_cause_of p c) 0))
 
       by_ended : (t : Bool) → if_ended t (later p n k b) ms s (read_from m)
@@ -99,7 +99,7 @@ module _ (from n : ℕ) where
   read_later zero m p k b ms s few o after e alike = absurd (omega arith)
   read_later (suc l) zero p k b ms s few o after e alike = absurd (omega arith)
   read_later (suc l) (suc m) p k b ms s few o after e alike =
-      let rest : (c : Command) → parse_of s ≡ Found c → read_from m (after_of (later p n k b) c) (marks_with ms c)
+      let rest : (c : Command) → parse_of s ≡ Ok c → read_from m (after_of (later p n k b) c) (marks_with ms c)
       (drop (width_of c) s) ≡ moved from n (read_from l (after_of p c) (marks_with ms c) (drop (width_of c) s)) =
       λ c f.
       let shorter : length (drop (width_of c) s) < length s =

@@ -18,10 +18,10 @@ pub mod Free
 pub mod Readable
 pub mod WrittenRead
 pub mod Parts
-pub mod HeaderParts
+pub mod Left
+pub mod Onward
 pub mod Accepts
 pub mod Names
 mod Later
 pub mod OldTicket
 pub mod WithNames
-mod Placed

@@ -9,10 +9,10 @@ use lib.Seq.{take-suc, take-append_seam}
 use borrow.Author.Tests.{lt-ltb}
 use Rattle.ticket.specs.declared.fields.Mark.{Mark}
 use Rattle.ticket.specs.declared.fields.Ticket.{Ticket}
-use Rattle.ticket.specs.declared.answer.ReadAnswer.{ReadAnswer}
-use Rattle.ticket.specs.declared.answer.Reading.{Reading}
 use Rattle.ticket.specs.Fields.{Fields, ReadOutcome, read, refused, blank_mark, listed, ticket_of}
 use Rattle.ticket.specs.Fields.{fields_of, reading_of}
+use Rattle.std.specs.Prelude.{Result, Ok, Err}
+use Rattle.answers.specs.declared.Refusal.{Refusal}
 
 pub listed_take : (ms : List Mark) (n : ℕ) → n ≤ 4096 → n ≤ length ms → listed ms n ≡ take n ms
 listed_take ms zero few room = refl
@@ -30,11 +30,11 @@ fields_ticket f few =
 abbrev fields_from : Ticket → Fields
 fields_from t = record { header = t.header; marks = take t.count t.marks }
 
-abbrev outcome_from : ReadAnswer → Ticket → ReadOutcome
-outcome_from ReadAnswer.Read t = read (fields_from t)
-outcome_from (ReadAnswer.Refused r) t = refused r
+abbrev outcome_from : Result Ticket Refusal → ReadOutcome
+outcome_from (Ok t) = read (fields_from t)
+outcome_from (Err r) = refused r
 
-outcome_back : (o : ReadOutcome) → let r = reading_of o in outcome_from r.answer r.ticket ≡ o
+outcome_back : (o : ReadOutcome) → outcome_from (reading_of o) ≡ o
 unfolding ticket_of
 outcome_back (read f) =
     rw (take-append_seam f.marks (replicate (4096 - length f.marks) blank_mark))
@@ -42,4 +42,4 @@ outcome_back (refused r) = refl
 
 pub readings_apart : (a b : ReadOutcome) → reading_of a ≡ reading_of b → a ≡ b
 readings_apart a b e =
-    sym (outcome_back a) ∙ ap (λ (r : Reading). outcome_from r.answer r.ticket) e ∙ outcome_back b
+    sym (outcome_back a) ∙ ap outcome_from e ∙ outcome_back b

@@ -13,15 +13,13 @@ use borrow.Author.Tests.{le-leb}
 use Rattle.answers.specs.declared.Refusal.{Refusal}
 use Rattle.commands.specs.declared.header.Header.{Header}
 use Rattle.commands.specs.declared.command.Command.{Command}
-use Rattle.commands.specs.declared.admit.Admitted.TheVariants.{Next}
 use Rattle.commands.specs.Header.{required_commands}
 use Rattle.commands.specs.Bytes.{encode_of, width_of, parse_of}
 use Rattle.commands.specs.Every.{none, more}
 use Rattle.commands.specs.Number.{AllBytes}
 use Rattle.commands.proofs.Coding.{length_encode, width_positive, parse_encode}
 use Rattle.ticket.specs.declared.fields.Mark.{Mark}
-use Rattle.ticket.specs.declared.answer.Reading.{Reading}
-use Rattle.ticket.specs.declared.answer.Written.TheVariants as Written
+use Rattle.ticket.specs.declared.fields.Ticket.{Ticket}
 use Rattle.ticket.specs.Fields.{Fields, ReadOutcome, read, refused, reading_of}
 use Rattle.ticket.specs.Read.{read_of}
 use Rattle.ticket.specs.Write.{mark_commands, commands_of, encode_all, bytes_of, check_of, write_of, output_of}
@@ -38,6 +36,7 @@ use Rattle.ticket.proofs.Listed.{fields_ticket}
 use Rattle.ticket.proofs.Own.{own_marks}
 use Rattle.ticket.proofs.Readable.{readable_checked}
 use Rattle.ticket.proofs.WrittenRead.{few}
+use Rattle.std.specs.Prelude.{Result, Ok, Err}
 
 -- ---- the commands of their bytes are found again
 
@@ -152,12 +151,12 @@ names_ignored s a f r =
 -- ---- what is written
 
 -- an answer that is a length is how many bytes there are
-as_many : (n m : ℕ) (r : Refusal) (b : Bool) → cond b (Written.Length n) (Written.Refused r) ≡ Written.Length m → n ≡ m
+as_many : (n m : ℕ) (r : Refusal) (b : Bool) → cond b (Ok n) (Err r) ≡ Ok m → n ≡ m
 as_many n m r true e = cc
 as_many n m r false e = cc
 
 module _ (f : Fields) (readable : Readable f) where
-  checks : check_of f ≡ Next (readable_checked f readable).0
+  checks : check_of f ≡ Ok (readable_checked f readable).0
   checks = (readable_checked f readable).1
 
   written_own : (s : List ℕ) → bytes_of f ≡ s → WrittenAs f s
@@ -175,13 +174,13 @@ module _ (f : Fields) (readable : Readable f) where
 
 module _ (s : List ℕ) (a : AllBytes s) where
   same_read : (o : ReadOutcome) → read_of s ≡ o → SameBytes s (reading_of o)
-  same_read (read f) e q =
+  same_read (read f) e =
       let (S, fits, readable) = read_rules s f a e in
       rw (fields_ticket f (few s f e)) (
         λ w. written_own f readable s (same_as_written f s S fits w),
         λ w. rw (← own_written f readable s w) (own_as_written f fits),
       )
-  same_read (refused x) e q = absurd (true≢false cc)
+  same_read (refused x) e = tt
 
-  pub same_bytes : (r : Reading) → r ≡ reading_of (read_of s) → SameBytes s r
+  pub same_bytes : (r : Result Ticket Refusal) → r ≡ reading_of (read_of s) → SameBytes s r
   same_bytes r e = rw e (same_read (read_of s) refl)

@@ -14,8 +14,6 @@ use Rattle.commands.specs.declared.command.HeaderCommand.TheVariants.{Code, Data
 use Rattle.commands.specs.declared.command.Command.{Command}
 use Rattle.answers.specs.declared.Refusal.{Refusal}
 use Rattle.commands.specs.declared.progress.Progress.{Progress}
-use Rattle.commands.specs.declared.admit.Admitted.{Admitted}
-use Rattle.commands.specs.declared.admit.Admitted.TheVariants.{Refused, Next}
 use Rattle.commands.specs.Every.{none, more}
 use Rattle.commands.specs.Rows.{header_length}
 use Rattle.commands.specs.Header.{header_with, required_commands, header_commands}
@@ -37,6 +35,7 @@ use Rattle.ticket.proofs.Readable.{header_says, headed_without_home, required_sa
 use Rattle.ticket.proofs.ReadWritten.{refused_stays}
 use Rattle.ticket.proofs.Stage.{by_admission, stage_after}
 use Rattle.ticket.proofs.Step.{step}
+use Rattle.std.specs.Prelude.{Result, Ok, Err}
 
 -- ---- commands of the header, and what comes after them
 
@@ -50,29 +49,29 @@ turns [] n = n
 turns (c ∷ cs) n = suc (turns cs n)
 
 -- by what their checks give
-abbrev onward : ℕ → List ℕ → Admitted → ReadOutcome
-onward n rest (Refused r) = refused r
-onward n rest (Next p) = read_from n p [] rest
+abbrev onward : ℕ → List ℕ → Result Progress Refusal → ReadOutcome
+onward n rest (Err r) = refused r
+onward n rest (Ok p) = read_from n p [] rest
 
 read_on : (cs : List HeaderCommand) (n : ℕ) (p : Progress) (rest : List ℕ) → AllFit (commands cs) → ended p ≡ false
-    → read_from (turns cs n) p [] (encode_all (commands cs) ++ rest) ≡ onward n rest (all_then (Next p) (commands cs))
+    → read_from (turns cs n) p [] (encode_all (commands cs) ++ rest) ≡ onward n rest (all_then (Ok p) (commands cs))
 read_on [] n p rest none e = refl
 read_on (c ∷ cs) n p rest (more fit fits) e =
     rw (append_assoc (encode_of (Command.Header c)) (encode_all (commands cs)) rest)
     (step (turns cs n) p [] (Command.Header c) (encode_all (commands cs) ++ rest) e fit
-    (λ a. onward n rest (all_then a (commands cs))) (λ r. rw refused_stays)
-    (read_on cs n (after_of p (Command.Header c)) rest fits (stage_after p (Command.Header c))))
+    (λ a. Unit {0}) (λ a. onward n rest (all_then a (commands cs))) (λ r. rw refused_stays)
+    (λ x. read_on cs n (after_of p (Command.Header c)) rest fits (stage_after p (Command.Header c))) tt)
 
-abbrev refused_place : Admitted → ℕ
-refused_place (Refused x) = x.place
-refused_place (Next q) = 0
+abbrev refused_place : Result Progress Refusal → ℕ
+refused_place (Err x) = x.place
+refused_place (Ok q) = 0
 
 -- a refusal's place is before the end of the commands
-refused_before : (cs : List Command) (p : Progress) (r : Refusal) → all_then (Next p) cs ≡ Refused r
+refused_before : (cs : List Command) (p : Progress) (r : Refusal) → all_then (Ok p) cs ≡ Err r
     → r.place < p.at + length (encode_all cs)
 refused_before [] p r e = absurd (not_next (sym e))
 refused_before (c ∷ cs) p r e =
-    by_admission p c (λ a. all_then a cs ≡ Refused r → r.place < p.at + length (encode_all (c ∷ cs)))
+    by_admission p c (λ a. all_then a cs ≡ Err r → r.place < p.at + length (encode_all (c ∷ cs)))
     (λ x at n.
     let same : x.place ≡ r.place = ap refused_place (sym (refused_stays x cs) ∙ n) in
     simp length-append (omega (arith, length_encode c, width_positive c)))
@@ -91,14 +90,14 @@ module _ (h : Header) (rest : List ℕ) (fits : AllFit (required_commands h)) wh
   abbrev full : List HeaderCommand
   full = Code h.code ∷ Data h.«data» ∷ Stack h.stack ∷ Entry h.entry h.limit ∷ Home 0 ∷ []
 
-  read_begun : read_of (begun h rest) ≡ onward (19 + length rest) rest (all_then (Next initial_progress)
+  read_begun : read_of (begun h rest) ≡ onward (19 + length rest) rest (all_then (Ok initial_progress)
       (required_commands h))
   unfolding read_of encode_of
   read_begun =
       let enough : suc (length (begun h rest)) ≡ turns required (19 + length rest) = omega arith in
       rw enough (read_on required (19 + length rest) initial_progress rest fits refl)
 
-  read_with_home : read_of (begun_with_home h rest) ≡ onward (21 + length rest) rest (all_then (Next initial_progress)
+  read_with_home : read_of (begun_with_home h rest) ≡ onward (21 + length rest) rest (all_then (Ok initial_progress)
       (header_commands homed))
   unfolding read_of encode_of
   read_with_home =
@@ -125,13 +124,13 @@ module _ (h : Header) (rest : List ℕ) (fits : AllFit (required_commands h)) wh
     alike (b ∷ s) e (Command.Name a t) f = refl
     alike (b ∷ s) e Command.End f = refl
 
-    by_checks : (a : Admitted) → all_then (Next initial_progress) (required_commands h) ≡ a
+    by_checks : (a : Result Progress Refusal) → all_then (Ok initial_progress) (required_commands h) ≡ a
         → read_of (begun_with_home h rest) ≡ moved required_size 3 (read_of (begun h rest))
     unfolding after_of width_of encode_of
-    by_checks (Refused r) e =
+    by_checks (Err r) e =
         let before : r.place < required_size = refused_before (required_commands h) initial_progress r e in
         rw (read_with_home, read_begun, e, lt-ltb r.place required_size before)
-    by_checks (Next q) e =
+    by_checks (Ok q) e =
         let free = admitted_free initial_progress q (required_commands h) e in
         let rules = ((required_says homed [] refl).0 free).0 in
         let free_with_home = (header_says homed []).1 (rules, tt) in

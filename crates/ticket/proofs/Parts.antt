@@ -1,81 +1,43 @@
--- The bytes of a ticket by its parts: the header's, the marks', the end's.
+-- The bytes of commands, one after another, and how they are put.
 -- Assumes nothing.
-use mathlib.Core.Path.{◌≡◌, refl, sym, ap, ◌∙◌}
-use Prim.Native.Nat.{ℕ, zero, suc, ◌+◌, ◌-◌, ◌≤◌, ◌<◌}
-use native.Mathlib.Nat.{add-zero, add-suc, add-sub_of_le}
+use mathlib.Core.Path.{◌≡◌, refl}
+use Prim.Native.Nat.{ℕ, ◌+◌, ◌≤◌, ◌<◌}
 use native.Mathlib.Omega.{arith}
-use mathlib.Core.List.{List, [], ◌∷◌, ◌++◌, append-nil, append_assoc}
-use lib.ListN.{length, get_or, length-append}
+use mathlib.Core.List.{List, [], ◌∷◌, ◌++◌, append_assoc}
+use native.Mathlib.Numerals.{add-one}
+use lib.ListN.{length, get_or, drop, length-append}
+use lib.Seq.{drop-cons}
+use Rattle.commands.specs.declared.command.HeaderCommand.TheVariants.{Code}
 use Rattle.commands.specs.declared.command.Command.{Command}
-use Rattle.commands.specs.declared.header.Header.{Header}
-use Rattle.commands.specs.Header.{header_commands}
 use Rattle.commands.specs.Bytes.{encode_of, width_of}
-use Rattle.commands.proofs.Coding.{length_encode, width_positive}
-use Rattle.ticket.specs.declared.fields.Mark.{Mark}
-use Rattle.ticket.specs.declared.fields.Ticket.{Ticket}
-use Rattle.ticket.specs.Fields.{blank_mark, mark_index, listed, fields_of}
-use Rattle.ticket.specs.Write.{mark_command, mark_commands, commands_of, encode_all, bytes_of}
-use Rattle.ticket.proofs.Snoc.{commands_snoc}
+use Rattle.commands.proofs.Coding.{length_encode}
+use Rattle.ticket.specs.Write.{encode_all}
+use Rattle.lists.specs.Splice.{spliced}
+use Rattle.lists.proofs.Splice.{Placed, placed_none, placed_next}
 
 pub encode_append : (cs ds : List Command) → encode_all (cs ++ ds) ≡ encode_all cs ++ encode_all ds
 encode_append [] ds = refl
 encode_append (c ∷ cs) ds = rw (encode_append cs ds, append_assoc)
 
--- how many bytes a header has
-abbrev pub header_size : Header → ℕ
-header_size h = length (encode_all (header_commands h))
+-- a command put, and those that are left after it
+pub put_end : (at next : ℕ) (c : Command) (cs : List Command) → next ≡ at + width_of c
+    → next + length (encode_all cs) ≡ at + length (encode_all (c ∷ cs))
+put_end at next c cs e = simp length-append (omega (arith, length_encode c))
 
--- the bytes of the first n marks
-abbrev pub marks_bytes : List Mark → ℕ → List ℕ
-marks_bytes ms n = encode_all (mark_commands (listed ms n))
+pub put_left : (out new : List ℕ) (at next : ℕ) (c : Command) (cs : List Command)
+    → at + length (encode_all (c ∷ cs)) ≤ length out → (new ≡ spliced out at (encode_of c)) × (next ≡ at + width_of c)
+    → spliced new next (encode_all cs) ≡ spliced out at (encode_all (c ∷ cs))
+put_left out new at next c cs room p =
+    let q : Placed out at (encode_of c) new next = record { bytes = p.0; end = rw length_encode p.1 } in
+    (placed_next {m = next + length (encode_all cs)} q (omega (arith, put_end at next c cs p.1)) (encode_all cs) (refl, refl)).bytes
 
-pub marks_more : (ms : List Mark) (i : ℕ) {j : ℕ} → j ≡ mark_index i →
-    marks_bytes ms (suc i) ≡ marks_bytes ms i ++ encode_of (mark_command (get_or ms j blank_mark))
-marks_more ms i e =
-    let m = mark_command (get_or ms (mark_index i) blank_mark) in
-    rw (e, commands_snoc (listed ms i)) (encode_append (mark_commands (listed ms i)) (m ∷ []) ∙ rw append-nil)
+-- the commands from one on
+abbrev pub any : Command
+any = Command.Header (Code (record { start = 0; length = 0 }))
 
-marks_longer : (ms : List Mark) (n k : ℕ) → length (marks_bytes ms n) ≤ length (marks_bytes ms (n + k))
-marks_longer ms n zero = rw add-zero (omega arith)
-marks_longer ms n (suc k) =
-    rw (add-suc n k, marks_more ms (n + k) refl, length-append) (omega (arith, marks_longer ms n k))
+pub next_of : (cs : List Command) (i : ℕ) → i < length cs → drop i cs ≡ get_or cs i any ∷ drop (i + 1) cs
+next_of cs i l = rw add-one (drop-cons cs i any l)
 
-module _ (t : Ticket) where
-  pub ticket_parts : bytes_of (fields_of t) ≡ (encode_all (header_commands t.header) ++ marks_bytes t.marks t.count)
-      ++ encode_of Command.End
-  unfolding bytes_of commands_of fields_of
-  ticket_parts =
-      let header = encode_all (header_commands t.header) in
-      let cs = mark_commands (listed t.marks t.count) in
-      let tail : encode_all (cs ++ (Command.End ∷ [])) ≡ encode_all cs ++ encode_of Command.End =
-      encode_append cs (Command.End ∷ []) ∙ rw append-nil in
-      encode_append (header_commands t.header) (cs ++ (Command.End ∷ []))
-      ∙ (ap (λ (s : List ℕ). header ++ s) tail ∙ sym (append_assoc header (encode_all cs) (encode_of Command.End)))
-
-  -- after i of the marks there is room for the end
-  pub end_room : (i : ℕ) → i ≤ t.count →
-      header_size t.header + length (marks_bytes t.marks i) + 1 ≤ length (bytes_of (fields_of t))
-  end_room i h =
-      let longer = rw (add-sub_of_le h) at (marks_longer t.marks i (t.count - i)) in
-      let header = encode_all (header_commands t.header) in
-      let marks = marks_bytes t.marks t.count in
-      rw ticket_parts (omega (
-        arith,
-        length-append (header ++ marks) (encode_of Command.End),
-        length-append header marks,
-        length_encode Command.End,
-        width_positive Command.End,
-      ))
-
-  -- and for one mark more, if there is one
-  pub mark_room : (i : ℕ) {j : ℕ} → j ≡ mark_index i → i < t.count →
-      header_size t.header + length (marks_bytes t.marks i) + width_of (mark_command (get_or t.marks j blank_mark))
-      ≤ length (bytes_of (fields_of t))
-  mark_room i {j} e h =
-      omega (
-        arith,
-        end_room (suc i) h,
-        ap length (marks_more t.marks i e),
-        length-append (marks_bytes t.marks i) (encode_of (mark_command (get_or t.marks j blank_mark))),
-        length_encode (mark_command (get_or t.marks j blank_mark)),
-      )
+-- none is left
+pub put_none : (out : List ℕ) (at : ℕ) → out ≡ spliced out at []
+put_none out at = (placed_none out at).bytes

@@ -11,22 +11,20 @@ use lib.ListN.{length, get_or, set, drop, replicate, length-drop, drop_of_length
 use lib.Seq.{drop-drop, drop-cons}
 use Rattle.commands.specs.declared.command.Command.{Command}
 use Rattle.answers.specs.declared.Refusal.{Refusal}
-use Rattle.commands.specs.declared.parse.ParsedCommand.TheVariants.{Found}
 use Rattle.commands.specs.declared.progress.Progress.{Progress}
 use Rattle.commands.specs.Bytes.{parse_of, width_of}
 use Rattle.commands.specs.Cause.{command_cause_of}
 use Rattle.commands.specs.Progress.{initial_progress, after_of, ended}
 use Rattle.commands.proofs.Coding.{parse_room, width_positive, after_at}
 use Rattle.commands.proofs.Sound.{bounds}
-use Rattle.ticket.specs.declared.answer.ReadAnswer.TheVariants as ReadAnswer
 use Rattle.ticket.specs.declared.fields.Mark.{Mark}
-use Rattle.ticket.specs.declared.reader.NextCommand.TheVariants as NextCommand
 use Rattle.ticket.specs.Fields.{refused, blank_mark, marks_with, in_file_order, ticket_of, reading_of}
 use Rattle.ticket.specs.inner.Entered.{entered_of}
 use Rattle.ticket.specs.Read.{refusal, next_command_of, end_of, read_onward, if_ended, read_from, read_of}
 use Rattle.ticket.proofs.MarkArray.{filled, entered}
 use Rattle.ticket.proofs.SoFar.{Consistent, consistent_start, consistent_next, length_ordered}
 use Rattle.ticket.proofs.Turned.{turned}
+use Rattle.std.specs.Prelude.{Ok, Err}
 
 pub record ReadState (s : List ℕ) (array : List Mark) (p : Progress) : Type 0 where
   pub marks : List Mark  -- the latest first
@@ -66,11 +64,11 @@ module _ (s : List ℕ) (array : List Mark) (p : Progress) (h : ReadState s arra
         (read_from (h.left - 1))
     read_on = simp go at turn
 
-    pub reading_refused : (r : Refusal) → next_command_of (drop p.at s) p ≡ NextCommand.Refused r →
+    pub reading_refused : (r : Refusal) → next_command_of (drop p.at s) p ≡ Err r →
         read_of s ≡ refused r
     reading_refused r e = rw e at read_on
 
-    module _ (c : Command) (found : parse_of (drop p.at s) ≡ Found c) where
+    module _ (c : Command) (found : parse_of (drop p.at s) ≡ Ok c) where
       moved : (p.at < (after_of p c).at) × ((after_of p c).at ≤ length s)
       moved =
           omega (
@@ -82,7 +80,7 @@ module _ (s : List ℕ) (array : List Mark) (p : Progress) (h : ReadState s arra
           )
 
       reached_after : (d : Mark) → command_cause_of p c ≡ 0 → next_command_of (drop p.at s) p
-          ≡ NextCommand.Next (after_of p c) c → ReadState s (set array ((after_of p c).count - 1)
+          ≡ Ok ((after_of p c), c) → ReadState s (set array ((after_of p c).count - 1)
           (entered_of (get_or array ((after_of p c).count - 1) d) c)) (after_of p c)
       reached_after d free e =
           let next = consistent_next p h.marks h.kept c free in
@@ -99,7 +97,7 @@ module _ (s : List ℕ) (array : List Mark) (p : Progress) (h : ReadState s arra
                 rw h.held (entered 4096 d p h.marks h.kept c (bounds next.sound).0);
           }
 
-    module _ (q : Progress) (c : Command) (e : next_command_of (drop p.at s) p ≡ NextCommand.Next q c) where
+    module _ (q : Progress) (c : Command) (e : next_command_of (drop p.at s) p ≡ Ok (q, c)) where
       pub reached_next : (d : Mark)
           → ReadState s (set array (q.count - 1) (entered_of (get_or array (q.count - 1) d) c))
           q
@@ -121,9 +119,7 @@ module _ (s : List ℕ) (array : List Mark) (p : Progress) (h : ReadState s arra
     pub reading_long : p.at < length s → read_of s ≡ refused (refusal 8 p.at)
     reading_long l = rw (drop-cons s p.at 0) at at_end
 
-    pub reading_done : length s ≤ p.at → record {
-      answer = ReadAnswer.Read;
-      ticket = record { header = p.header; count = p.count; marks = array };
-    } ≡ reading_of (read_of s)
+    pub reading_done : length s ≤ p.at → Ok (record { header = p.header; count = p.count; marks = array })
+        ≡ reading_of (read_of s)
     unfolding ticket_of filled
     reading_done l = rw (rw (drop_of_length-le s l) at at_end, h.held, length_ordered, h.kept.counted)

@@ -11,7 +11,6 @@ use Rattle.commands.specs.declared.command.HeaderCommand.TheVariants.{Home}
 use Rattle.commands.specs.declared.command.Command.{Command}
 use Rattle.commands.specs.declared.header.Header.{Header}
 use Rattle.commands.specs.declared.progress.Progress.{Progress}
-use Rattle.commands.specs.declared.admit.Admitted.TheVariants.{Next}
 use Rattle.commands.specs.Header.{header_with, required_commands, header_commands}
 use Rattle.commands.specs.Bytes.{width_of}
 use Rattle.commands.specs.Rows.{header_length}
@@ -33,6 +32,7 @@ use Rattle.ticket.proofs.Says.{outside_says, apart_says}
 use Rattle.ticket.proofs.Text.{name_free}
 use Rattle.ticket.proofs.Free.{after_all, Free, free_admitted, admitted_free}
 use Rattle.ticket.proofs.Own.{own}
+use Rattle.std.specs.Prelude.{Ok}
 
 ruleset tests = (true_says, and-eq-true_iff, leb_says, ltb_says, eqb_says, after_says, outside_says, apart_says)
 
@@ -158,10 +158,10 @@ module _ (f : Fields) where
         λ r. let h = parts.1 r in head.1 (h.0, marks.1 (rw same at h.1)),
       )
 
-pub readable_checked : (f : Fields) → Readable f → (q : Progress) × (check_of f ≡ Next q)
+pub readable_checked : (f : Fields) → Readable f → (q : Progress) × (check_of f ≡ Ok q)
 unfolding check_of
 readable_checked f r = (_, free_admitted initial_progress (commands_of f) ((readable_says f (own f)).1 r))
 
-pub checked_readable : (f : Fields) (q : Progress) → check_of f ≡ Next q → Readable f
+pub checked_readable : (f : Fields) (q : Progress) → check_of f ≡ Ok q → Readable f
 unfolding check_of
 checked_readable f q e = (readable_says f (own f)).0 (admitted_free initial_progress q (commands_of f) e)

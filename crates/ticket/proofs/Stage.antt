@@ -9,20 +9,19 @@ use borrow.Author.Tests.{ne_eqb}
 use Rattle.commands.specs.declared.command.Command.{Command}
 use Rattle.answers.specs.declared.Refusal.{Refusal}
 use Rattle.commands.specs.declared.progress.Progress.{Progress}
-use Rattle.commands.specs.declared.admit.Admitted.{Admitted}
-use Rattle.commands.specs.declared.admit.Admitted.TheVariants.{Refused, Next}
 use Rattle.commands.specs.Rows.{header_length}
 use Rattle.commands.specs.Command.{stage_of}
 use Rattle.commands.specs.Progress.{after_of, ended}
 use Rattle.commands.specs.Cause.{command_cause_of}
 use Rattle.commands.specs.Admit.{admit_of}
 use Rattle.commands.proofs.HeaderLaw.{header_law}
+use Rattle.std.specs.Prelude.{Result, Ok, Err}
 
 -- what holds of every refusal at the command's offset, and of what the command leaves, holds of what its admission
 -- gives
-module _ (p : Progress) (c : Command) (P : Admitted → Type 0)
-    (refuses : (r : Refusal) → r.place ≡ p.at → P (Refused r)) (goes : P (Next (after_of p c))) where
-  by_cause : (r : Refusal) → r.place ≡ p.at → (b : Bool) → P (cond b (Next (after_of p c)) (Refused r))
+module _ (p : Progress) (c : Command) (P : Result Progress Refusal → Type 0)
+    (refuses : (r : Refusal) → r.place ≡ p.at → P (Err r)) (goes : P (Ok (after_of p c))) where
+  by_cause : (r : Refusal) → r.place ≡ p.at → (b : Bool) → P (cond b (Ok (after_of p c)) (Err r))
   by_cause r e true = goes
   by_cause r e false = refuses r e
 

@@ -12,8 +12,6 @@ use lib.ListN.{length, get_or, length-append}
 use borrow.Author.Tests.{eqb-false, eq-eqb, ne_eqb}
 use Rattle.commands.specs.declared.command.Command.{Command}
 use Rattle.commands.specs.declared.progress.Progress.{Progress}
-use Rattle.commands.specs.declared.admit.Admitted.{Admitted}
-use Rattle.commands.specs.declared.admit.Admitted.TheVariants.{Refused, Next}
 use Rattle.commands.specs.Every.{none, more}
 use Rattle.commands.specs.Fits.{Fits}
 use Rattle.commands.specs.Rows.{header_length}
@@ -34,6 +32,8 @@ use Rattle.ticket.proofs.Checks.{all_at}
 use Rattle.ticket.proofs.Free.{after_all, Free, free_admitted, admitted_free}
 use Rattle.ticket.proofs.Later.{later, Alike, same_cause, later_after, read_later}
 use Rattle.ticket.proofs.Step.{step}
+use Rattle.std.specs.Prelude.{Result, Ok, Err}
+use Rattle.answers.specs.declared.Refusal.{Refusal}
 
 -- ---- commands to which nothing is objected are read, and then what comes after them
 
@@ -48,15 +48,15 @@ module _ (p : Progress) (c : Command) (free : command_cause_of p c ≡ 0) where
       (omega (arith, (in_order_parts p c (allowed p c free).ordered).0.ahead, stage_most c))
 
   -- by what the command's admission gives
-  abbrev onward : ReadOutcome → Admitted → ReadOutcome
-  onward o (Refused r) = refused r
-  onward o (Next q) = o
+  abbrev onward : ReadOutcome → Result Progress Refusal → ReadOutcome
+  onward o (Err r) = refused r
+  onward o (Ok q) = o
 
   read_one : (n : ℕ) (ms : List Mark) (s : List ℕ) → Fits c → read_from (suc n) p ms (encode_of c ++ s)
       ≡ read_from n (after_of p c) (marks_with ms c) s
   unfolding admit_of
   read_one n ms s fit =
-      step n p ms c s not_ended fit (onward (read_from n (after_of p c) (marks_with ms c) s)) (λ r. refl) refl
+      step n p ms c s not_ended fit (λ a. Unit {0}) (onward (read_from n (after_of p c) (marks_with ms c) s)) (λ r. refl) (λ x. refl) tt
       ∙ rw (eq-eqb _ _ free)
 
 -- the turns that are then left are enough

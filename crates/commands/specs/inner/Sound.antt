@@ -2,10 +2,8 @@
 -- falls outside its array.
 -- Assumes nothing.
 use Rattle.std.specs.Prelude.{ℕ, zero, suc, ◌+◌, ◌*◌, ◌≤◌, ◌<◌, ◌≡◌, true, cond, List, [], ◌∷◌, eqb}
-use Rattle.std.specs.Prelude.{Result, Ok, Err}
 use Rattle.lists.specs.Bit.{one}
 use Rattle.commands.specs.Rows.{CommandRow, size_of, command_rows, header_length}
-use Rattle.answers.specs.declared.Refusal.{Refusal}
 use Rattle.commands.specs.declared.progress.Progress.{Progress}
 
 -- the bytes of a command of the first of some rows that has this stage; of the three that come after the header the
@@ -29,8 +27,3 @@ pub record Sound (p : Progress) : Type 0 where
   pub rising : 1 ≤ p.count → (p.header.code.start + p.count ≤ p.last + 1)
       × (p.last < p.header.code.start + p.header.code.length)
   pub named : p.nameable ≡ true → 1 ≤ p.count
-
--- the progress, if there is one, is sound
-pub data SoundSoFar : Result Progress Refusal → Type 0 where
-  stopped : {r : Refusal} → SoundSoFar (Err r)
-  sound : {p : Progress} → Sound p → SoundSoFar (Ok p)

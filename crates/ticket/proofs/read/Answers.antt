@@ -8,7 +8,9 @@ use mathlib.Core.List.{List}
 use lib.ListN.{get_or}
 use Rattle.commands.specs.Progress.{ended}
 use Rattle.commands.proofs.Digits.{all_bytes}
-use Rattle.ticket.specs.declared.answer.Reading.{Reading}
+use Rattle.answers.specs.declared.Refusal.{Refusal}
+use Rattle.ticket.specs.declared.fields.Ticket.{Ticket}
+use Rattle.std.proofs.lemmas.Result.{err_from_is_err_and}
 use Rattle.ticket.specs.Fields.{reading_of}
 use Rattle.ticket.specs.Read.{read_of}
 use Rattle.ticket.specs.Names.{NamesIgnored}
@@ -19,8 +21,9 @@ use Rattle.ticket.proofs.Names.{names_ignored, same_bytes}
 use Rattle.ticket.proofs.ReadLoop.{reached_start, reached_next, next_bounds, reading_refused}
 use Rattle.ticket.proofs.ReadLoop.{reading_long, reading_done}
 use Rattle.ticket.proofs.read.Goals as goal
+use Rattle.std.specs.Prelude.{Result}
 
-promised : (s : List ℕ) → ((i : ℕ) → get_or s i 0 < 256) → (r : Reading) → r ≡ reading_of (read_of s) →
+promised : (s : List ℕ) → ((i : ℕ) → get_or s i 0 < 256) → (r : Result Ticket Refusal) → r ≡ reading_of (read_of s) →
     (r ≡ reading_of (read_of s)) × ReadByTheRules s × SameBytes s r × NamesIgnored s
 promised s small r e =
     let bytes = all_bytes s small in
@@ -29,43 +32,43 @@ promised s small r e =
 pub loop-p-init : goal.loop-p-init
 loop-p-init c = rw (c.initial-p.ensures, c.blank-marks.ensures) (reached_start _)
 
-pub returns-in-Refused : goal.returns-in-Refused
-returns-in-Refused c =
+pub returns-in_err-q : goal.returns-in_err-q
+returns-in_err-q c =
     let goes_on : ended c.loop-p.p ≡ false = cc in
-    let e = sym c.next_command.ensures ∙ c.in-Refused.is in
-    promised _ (λ i. (c.type_inv.bytes i).fits) _
-    (c.refused.ensures ∙ ap reading_of (sym (reading_refused _ _ _ c.loop-p.invariant goes_on _ e)))
+    let p = err_from_is_err_and c.from_residual.result c.from_residual.ensures.1 in
+    let e = sym c.next_command.ensures ∙ c.in_err-q.was in
+    rw (p.1, p.2) (promised _ (λ i. (c.type_inv.bytes i).fits) _
+    (ap reading_of (sym (reading_refused _ _ _ c.loop-p.invariant goes_on _ e))))
 
 pub bounds-marks-i : goal.bounds-marks-i
 bounds-marks-i c =
     let goes_on : ended c.loop-p.p ≡ false = cc in
-    let e = sym c.next_command.ensures ∙ c.in-Next.is in
+    let e = sym c.next_command.ensures ∙ c.in_ok-q.was in
     omega (arith, next_bounds _ _ _ c.loop-p.invariant goes_on _ _ e)
 
-pub bounds-marks-i-in-Next : goal.bounds-marks-i-in-Next
-bounds-marks-i-in-Next c =
+pub bounds-marks-i-in-loop-p : goal.bounds-marks-i-in-loop-p
+bounds-marks-i-in-loop-p c =
     let goes_on : ended c.loop-p.p ≡ false = cc in
-    let e = sym c.next_command.ensures ∙ c.in-Next.is in
+    let e = sym c.next_command.ensures ∙ c.in_ok-q.was in
     omega (arith, next_bounds _ _ _ c.loop-p.invariant goes_on _ _ e)
 
 pub loop-p-smaller : goal.loop-p-smaller
 loop-p-smaller c =
     let goes_on : ended c.loop-p.p ≡ false = cc in
-    let e = sym c.next_command.ensures ∙ c.in-Next.is in
+    let e = sym c.next_command.ensures ∙ c.in_ok-q.was in
     omega (arith, next_bounds _ _ _ c.loop-p.invariant goes_on _ _ e)
 
 pub loop-p-preserved : goal.loop-p-preserved
 loop-p-preserved c =
     let goes_on : ended c.loop-p.p ≡ false = cc in
-    let e = sym c.next_command.ensures ∙ c.in-Next.is in
+    let e = sym c.next_command.ensures ∙ c.in_ok-q.was in
     rw (c.entered.ensures, c.latest_index-i.ensures) (reached_next _ _ _ c.loop-p.invariant goes_on _ _ e _)
 
 pub returns-then-p-bytes : goal.returns-then-p-bytes
 returns-then-p-bytes c =
     let stops : ended c.loop-p.p ≡ true = cc in
     let long = reading_long _ _ _ c.loop-p.invariant stops c.if-p-bytes.true in
-    promised _ (λ i. (c.type_inv.bytes i).fits) _
-    (c.refused-then-p-bytes.ensures ∙ rw c.refuse.ensures (ap reading_of (sym long)))
+    promised _ (λ i. (c.type_inv.bytes i).fits) _ (rw c.refuse.ensures (ap reading_of (sym long)))
 
 pub returns : goal.returns
 returns c =

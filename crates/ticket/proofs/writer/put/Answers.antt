@@ -1,59 +1,86 @@
 -- `put` puts the header, the marks one after another and the end.
 -- Assumes nothing.
-use mathlib.Core.Path.{◌≡◌, refl}
+use mathlib.Core.Path.{◌≡◌, refl, sym, ap, ◌∙◌}
 use native.Mathlib.Omega.{arith}
-use native.Mathlib.Numerals.{add-one}
+use Prim.Native.Nat.{◌+◌}
+use mathlib.Core.List.{[], ◌++◌}
+use lib.ListN.{length, get_or, length-append}
 use Rattle.commands.specs.declared.command.Command.TheVariants as Command
 use Rattle.commands.specs.Bytes.{width_of}
 use Rattle.commands.specs.Header.{header_commands}
-use Rattle.lists.proofs.Splice.{placed_none, placed_next}
-use Rattle.ticket.specs.Write.{encode_all}
-use Rattle.ticket.proofs.Placed.{placed_command}
-use Rattle.ticket.proofs.Parts.{marks_bytes, marks_more, end_room, mark_room, ticket_parts}
+use Rattle.lists.specs.Splice.{spliced}
+use Rattle.lists.proofs.Splice.{Placed, placed_next}
+use Rattle.ticket.specs.declared.fields.Ticket.{Ticket}
+use Rattle.ticket.specs.Fields.{blank_mark, mark_index, fields_of}
+use Rattle.ticket.specs.Write.{mark_command, encode_all, bytes_of}
+use Rattle.ticket.proofs.Left.{marks_left, whole, next_mark, no_mark}
+use Rattle.ticket.proofs.Parts.{encode_append, put_end, put_left, put_none}
 use Rattle.ticket.proofs.writer.put.Goals as goal
 
-pub put_header-at-requires : goal.put_header-at-requires
-put_header-at-requires c = omega (arith, end_room c.args.t 0 (omega arith))
+parts : (t : Ticket) → bytes_of (fields_of t) ≡ encode_all (header_commands t.header) ++ encode_all (marks_left t.marks t.count 0)
+unfolding bytes_of
+parts t = ap encode_all (whole t) ∙ encode_append (header_commands t.header) (marks_left t.marks t.count 0)
+
+size : (t : Ticket) → length (bytes_of (fields_of t))
+    ≡ length (encode_all (header_commands t.header)) + length (encode_all (marks_left t.marks t.count 0))
+size t = ap length (parts t) ∙ length-append (encode_all (header_commands t.header)) (encode_all (marks_left t.marks t.count 0))
+
+pub put_all-at-requires : goal.put_all-at-requires
+put_all-at-requires c = rw c.header_commands.ensures.0 (omega (arith, size c.args.t.now))
 
 pub loop-i-init : goal.loop-i-init
-loop-i-init c = (placed_none _ _, omega arith, refl)
+loop-i-init c = record { whole = refl; end = refl }
 
 pub put_command-at-requires : goal.put_command-at-requires
 unfolding width_of
 put_command-at-requires c =
-    rw c.mark_command.ensures.0 (omega (
-      arith,
-      mark_room c.args.t c.loop-i.i c.mark_index-j.ensures c.loop-i-test.true,
-    ))
+    let l = c.loop-i in
+    let t = c.args.t.now in
+    let k = mark_command (get_or t.marks (mark_index l.i) blank_mark) in
+    let head = rw c.header_commands.ensures.0 at c.put_all-at.ensures.1 in
+    let e = rw (next_mark t.marks t.count l.i (omega arith)) at l.invariant.end in
+    let room = put_end l.at (l.at + width_of k) k (marks_left t.marks t.count (l.i + 1)) refl in
+    rw c.mark_command.ensures.0 (omega (arith, e, head, size t, room))
 
 pub loop-i-preserved : goal.loop-i-preserved
-unfolding width_of
 loop-i-preserved c =
     let l = c.loop-i in
-    let t = c.args.t in
-    let e = c.mark_index-j.ensures in
-    let room = mark_room t l.i e c.loop-i-test.true in
-    let put = rw c.mark_command.ensures.0 at c.put_command-at.ensures in (
-      rw (add-one, marks_more t.marks l.i e) (placed_command l.invariant.0 (omega arith) _ put),
-      omega arith,
-      omega arith,
-    )
+    let t = c.args.t.now in
+    let k = mark_command (get_or t.marks (mark_index l.i) blank_mark) in
+    let command : c.mark_command.result ≡ k = simp (c.mark_command.ensures.0, c.mark_index.ensures) in
+    let rest = marks_left t.marks t.count (l.i + 1) in
+    let n = next_mark t.marks t.count l.i (omega arith) in
+    let put = rw command at c.put_command-at.ensures in
+    let head = rw c.header_commands.ensures.0 at c.put_all-at.ensures.1 in
+    let e = rw n at l.invariant.end in
+    let w = put_left l.out c.put_command-at.new.out l.at c.put_command-at.result k rest (omega (arith, e, head, size t)) put in
+    record {
+      whole = w ∙ (rw n at l.invariant.whole);
+      end = put_end l.at c.put_command-at.result k rest put.1 ∙ e;
+    }
 
 pub put_command-requires : goal.put_command-requires
-unfolding width_of
-put_command-requires c = omega (arith, end_room c.args.t c.loop-i.i (omega arith))
+put_command-requires c =
+    let l = c.loop-i in
+    let t = c.args.t.now in
+    let all : l.i ≡ t.count = omega arith in
+    let head = rw c.header_commands.ensures.0 at c.put_all-at.ensures.1 in
+    let e = rw (all, no_mark) at l.invariant.end in
+    omega (arith, e, head, size t, put_end l.at (l.at + width_of Command.End) Command.End [] refl)
 
 pub returns : goal.returns
-unfolding width_of
 returns c =
     let l = c.loop-i in
-    let t = c.args.t in
-    let head = c.put_header-at in
-    let room = end_room t l.i (omega arith) in
-    let p₁ =
-    placed_next {m = head.result} (placed_none c.args.out.now 0) (omega arith)
-    (encode_all (header_commands t.header)) (head.ensures.0, omega arith) in
-    let p₂ = placed_next p₁ (omega arith) (marks_bytes t.marks l.i) (l.invariant.0.bytes, l.invariant.0.end) in
-    let p₃ = placed_command p₂ (omega arith) Command.End c.put_command.ensures in
+    let t = c.args.t.now in
     let all : l.i ≡ t.count = omega arith in
-    rw (ticket_parts t, ← all) p₃.bytes
+    let first = rw c.header_commands.ensures.0 at c.put_all-at.ensures in
+    let e = rw (all, no_mark) at l.invariant.end in
+    let w = rw (all, no_mark) at l.invariant.whole in
+    let marks = encode_all (marks_left t.marks t.count 0) in
+    let header = encode_all (header_commands t.header) in
+    let last = c.put_command in
+    let put = put_left l.out last.new.out l.at last.result Command.End [] (omega (arith, e, first.1, size t)) last.ensures in
+    let p : Placed c.args.out.now 0 header c.put_all-at.new.out c.put_all-at.result =
+    record { bytes = first.0; end = first.1 } in
+    let q = placed_next {m = c.put_all-at.result + length marks} p (omega (arith, first.1, size t)) marks (refl, refl) in
+    put_none last.new.out last.result ∙ put ∙ w ∙ q.bytes ∙ ap (spliced c.args.out.now 0) (sym (parts t))
