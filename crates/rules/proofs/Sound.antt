@@ -1,7 +1,7 @@
 -- Where the verdict on some fields accepts, every rule holds of them, and the answer is what they claim at their entry.
 -- Assumes nothing.
 use Prim.Native.Nat.{ℕ, ◌+◌}
-use mathlib.Core.Path.{◌≡◌}
+use mathlib.Core.Path.{◌≡◌, sym, ap}
 use mathlib.Core.List.{List}
 use borrow.Author.Tests.{leb-true, eqb-true}
 use Rattle.ticket.specs.Fields.{Fields}
@@ -21,7 +21,8 @@ unfolding verdict_on
 accepted f image r a j =
     let h = simp (first_says, append_says, marks_says, tests) at j in
     let k = marked (claim_at f.marks f.header.entry) h.0.1.1.0.0 in
-    let same = rw k.1 at h.1 in (
+    let same = rw k.1 at h.1 in
+    let is : record { entry = f.header.entry; cost = k.0.cost; stack = record { 0 = k.0.need.0 + 2 } } ≡ a = cc in (
       record {
         readable = r;
         image_length = h.0.0;
@@ -32,7 +33,7 @@ accepted f image r a j =
         start_cost = leb-true _ _ (rw k.1 at h.0.1.1.1.0);
         start_need = leb-true _ _ (rw k.1 at h.0.1.1.1.1.0);
       },
-      cc,
-      cc,
-      cc,
+      ap (λ (x : Acceptance). x.entry) (sym is),
+      ap (λ (x : Acceptance). x.cost) (sym is),
+      ap (λ (x : Acceptance). x.stack.0) (sym is),
     )
