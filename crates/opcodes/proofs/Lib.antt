@@ -1,5 +1,3 @@
-pub mod Order
-pub mod Skipped
 pub mod Every
 pub mod ByRow
 pub mod Rule

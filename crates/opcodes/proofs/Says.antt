@@ -49,9 +49,6 @@ module _ (first second : ℕ) where
       let s = there_says o (sym e) in
       (below o.place s.3, rw (← s.1) (size_most o.place), rw (← s.2) (entry_word o.place), sym s.2)
 
-  pub in_tables : {o : Found} → found_of first second ≡ Some o → o.place < 1024
-  in_tables {o} h = below o.place (there_says o h).3
-
   pub entry : {o : Found} → found_of first second ≡ Some o → o.cost ≡ cost_at o.place
   entry {o} h = sym (there_says o h).2
 
