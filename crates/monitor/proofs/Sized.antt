@@ -12,6 +12,7 @@ use Rattle.stepper.specs.Run.{run_of}
 use Rattle.monitor.specs.RegisterBytes.{register_size, unpacked}
 use Rattle.monitor.specs.StepperCalls.{StepperCall, stepper_call, of_step, of_run, if_sized, step_bytes_of}
 use Rattle.monitor.specs.StepperCalls.{run_bytes_of}
+use Rattle.monitor.proofs.Agrees.{step_agrees}
 
 module _ (c : ℕ) (rs m : List ℕ) (a : StepperCall) where
   pub bad_registers : (length rs ≡ register_size → ⊥) → stepper_call 21 c 0 rs m ≡ if_sized c rs m a
@@ -20,14 +21,14 @@ module _ (c : ℕ) (rs m : List ℕ) (a : StepperCall) where
   pub bad_memory : length rs ≡ register_size → (length m ≡ 65536 → ⊥) → stepper_call 21 c 0 rs m ≡ if_sized c rs m a
   bad_memory h g = simp (eq-eqb _ _ h, ne_eqb _ _ g)
 
-module _ (rs m : List ℕ) (h : length rs ≡ register_size) (g : length m ≡ 65536) {r : Registers} (e : r ≡ unpacked rs)
+-- bs: the register bytes, as an array
+module _ (rs bs m : List ℕ) (h : length rs ≡ register_size) (s : bs ≡ rs) {r : Registers} (e : r ≡ unpacked bs)
     {m' : List ℕ} (c p : ℕ) where
   pub steps : {a : Answer} → a ≡ (step_of r m).answer → m' ≡ (step_of r m).memory
-      → of_step a c p rs m' ≡ step_bytes_of c p rs m
-  unfolding step_bytes_of
-  steps a n = simp (eq-eqb _ _ h, eq-eqb _ _ g, a, n, e)
+      → of_step a c p bs m' ≡ step_bytes_of c p rs m
+  steps a n = simp (step_agrees c p rs m h, a, n, e, s)
 
-  pub runs : (home b : ℕ) {a : RunAnswer} → let w = run_of (record { home = home }) r m b in
+  pub runs : length m ≡ 65536 → (home b : ℕ) {a : RunAnswer} → let w = run_of (record { home = home }) r m b in
       a ≡ w.answer → m' ≡ w.memory → of_run a p m' ≡ run_bytes_of c p rs m home b
   unfolding run_bytes_of
-  runs home b a n = simp (eq-eqb _ _ h, eq-eqb _ _ g, a, n, e)
+  runs g home b a n = simp (eq-eqb _ _ h, eq-eqb _ _ g, a, n, e, s)
