@@ -4,7 +4,7 @@
 use mathlib.Core.Path.{◌≡◌, refl, sym}
 use mathlib.Core.Bool.{Bool, true, false, cond, and-false}
 use mathlib.Core.List.{List, [], ◌∷◌}
-use mathlib.Core.Option.{Option, none, some, none-ne-some}
+use Rattle.std.specs.Prelude.{Option, None, Some}
 use Prim.Native.Nat.{ℕ, ◌+◌, ◌≤◌, ◌<◌}
 use native.Mathlib.Omega.{arith}
 use borrow.Author.Tests.{leb-false, le-leb, ne_eqb}
@@ -13,8 +13,6 @@ use lib.ListN.{length, get_or, take, drop, drop_of_length-le}
 use Rattle.commands.specs.Every.{more}
 use Rattle.commands.specs.Number.{AllBytes}
 use Rattle.commands.specs.declared.header.Window.{Window}
-use Rattle.records.specs.declared.decode.Decoded.{Decoded}
-use Rattle.records.specs.declared.decode.Decoded.TheVariants.{Bytes}
 use Rattle.records.specs.declared.progress.FileProgress.{FileProgress}
 use Rattle.records.specs.Read.{bytes_of, formed, LineOutcome, cause, line_by, line_of}
 use Rattle.records.specs.inner.Decoded.{decoded, countable}
@@ -32,16 +30,16 @@ too_long t n bs h k =
     rw (le-leb 4 (length bs) (omega arith), ne_eqb (get_or bs 0 0 + 1) (length bs) (λ e. omega arith))
 
 module _ (w : Window) (p : FileProgress) (cs : List ℕ) where
-  unformed_as : (s t : ℕ) (bs : List ℕ) → formed t p.s1 bs ≡ false → line_by w p cs s t (some bs) ≡ cause 25
+  unformed_as : (s t : ℕ) (bs : List ℕ) → formed t p.s1 bs ≡ false → line_by w p cs s t (Some bs) ≡ cause 25
   unformed_as s t bs e = simp (e, and-false)
 
-  uncounted : (s t : ℕ) (o : Option (List ℕ)) → ((bs : List ℕ) → o ≡ some bs → AllBytes bs) → none ≡ countable o
+  uncounted : (s t : ℕ) (o : Option (List ℕ)) → ((bs : List ℕ) → o ≡ Some bs → AllBytes bs) → None ≡ countable o
       → line_by w p cs s t o ≡ cause 25
-  uncounted s t none h e = refl
-  uncounted s t (some bs) h e = by (leb (length bs) 256) refl e
+  uncounted s t None h e = refl
+  uncounted s t (Some bs) h e = by (leb (length bs) 256) refl e
     where
-      by : (b : Bool) → leb (length bs) 256 ≡ b → none ≡ cond b (some bs) none → line_by w p cs s t (some bs) ≡ cause 25
-      by true f g = absurd (none-ne-some bs g)
+      by : (b : Bool) → leb (length bs) 256 ≡ b → None ≡ cond b (Some bs) None → line_by w p cs s t (Some bs) ≡ cause 25
+      by true f g = absurd cc
       by false f g =
           unformed_as s t bs (too_long t p.s1 bs (first_small bs (h bs refl)) (leb-false (length bs) 256 f))
 
@@ -49,24 +47,24 @@ module _ (w : Window) (p : FileProgress) (cs : List ℕ) where
   unfolding line_of bytes_of
   short_line l h = let e : drop 2 l ≡ [] = drop_of_length-le l {i = 2} (omega arith) in rw e
 
-  pub malformed_line : (l : List ℕ) → none ≡ countable (bytes_of (rest l 2)) → cause 25 ≡ line_of w p cs l
+  pub malformed_line : (l : List ℕ) → None ≡ countable (bytes_of (rest l 2)) → cause 25 ≡ line_of w p cs l
   unfolding line_of
   malformed_line l e =
       sym (uncounted (get_or l 0 0) (get_or l 1 0) (bytes_of (drop 2 l))
       (λ bs r. hex_bytes (read_spelled (drop 2 l) bs r).hex) (rw rest_is at e))
 
 -- bytes that are counted are all
-counted : (o : Option (List ℕ)) (bs : List ℕ) → some bs ≡ countable o → o ≡ some bs
-counted none bs e = absurd (none-ne-some bs (sym e))
-counted (some ys) bs e = by (leb (length ys) 256) e
+counted : (o : Option (List ℕ)) (bs : List ℕ) → Some bs ≡ countable o → o ≡ Some bs
+counted None bs e = absurd cc
+counted (Some ys) bs e = by (leb (length ys) 256) e
   where
-    by : (b : Bool) → some bs ≡ cond b (some ys) none → some ys ≡ some bs
+    by : (b : Bool) → Some bs ≡ cond b (Some ys) None → Some ys ≡ Some bs
     by true e = sym e
-    by false e = absurd (none-ne-some bs (sym e))
+    by false e = absurd cc
 
-pub counted_line : (w : Window) (p : FileProgress) (cs l buffer : List ℕ) {r : Decoded} {n : ℕ} {o : LineOutcome}
-    → r ≡ Bytes n → decoded r buffer ≡ countable (bytes_of (rest l 2))
-    → o ≡ line_by w p cs (get_or l 0 0) (get_or l 1 0) (some (take n buffer)) → o ≡ line_of w p cs l
+pub counted_line : (w : Window) (p : FileProgress) (cs l buffer : List ℕ) {r : Option ℕ} {n : ℕ} {o : LineOutcome}
+    → r ≡ Some n → decoded r buffer ≡ countable (bytes_of (rest l 2))
+    → o ≡ line_by w p cs (get_or l 0 0) (get_or l 1 0) (Some (take n buffer)) → o ≡ line_of w p cs l
 unfolding line_of
 counted_line w p cs l buffer {n = n} r_is e h =
     rw (counted (bytes_of (drop 2 l)) (take n buffer) (rw (rest_is, r_is) at e)) h

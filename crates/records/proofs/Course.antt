@@ -1,84 +1,70 @@
 -- A file's reading, line by line.
 -- Assumes nothing.
 use mathlib.Core.Path.{◌≡◌, refl}
-use mathlib.Core.List.{List}
+use mathlib.Core.Bool.{true, false}
+use mathlib.Core.List.{List, []}
 use Prim.Native.Nat.{ℕ, ◌+◌, ◌≤◌, ◌<◌}
 use native.Mathlib.Omega.{arith}
 use lib.ListN.{length, take, drop, length-drop, drop_of_length-le}
-use lib.Seq.{drop-drop}
 use Rattle.ticket.specs.Read.{refusal}
 use Rattle.commands.specs.declared.header.Window.{Window}
 use Rattle.records.specs.declared.progress.FileProgress.{FileProgress}
 use Rattle.records.specs.Read.{lines_of, blank_cells, cause, next, line_of, refused, line_number, close_of, onward}
-use Rattle.records.specs.Read.{file_from, initial, file_of}
+use Rattle.records.specs.Read.{file_from, initial, file_of, all_given, named}
 use Rattle.records.specs.inner.Decoded.{line_length}
-use Rattle.records.proofs.Rest.{rest, rest_is}
-use Rattle.records.proofs.Lines.{first_line, line_some, line_within}
+use Rattle.records.proofs.Lines.{first_line, line_some}
 use Rattle.records.proofs.AllGiven.{blank_size}
 use Rattle.records.proofs.LineLaw.{one_more}
 
--- where a file is read up to a byte: what is left leads to what the whole does
-pub record Reached (w : Window) (file cs : List ℕ) (p : FileProgress) (at : ℕ) : Type 0 where
-  pub inside : at ≤ length file
-  pub lines : p.lines ≤ at
+-- where a file is read up to some rest: what is left leads to what the whole does
+pub record Reached (w : Window) (file cs : List ℕ) (p : FileProgress) (rest : List ℕ) : Type 0 where
+  pub lines : p.lines + length rest ≤ length file
   pub s1 : p.s1 ≤ p.lines
   pub size : length cs ≡ 4096
-  pub course : file_from w p cs (lines_of (drop at file)) ≡ file_of w file
+  pub course : file_from w p cs (lines_of rest) ≡ file_of w file
 
-pub begins : (w : Window) (file : List ℕ) → Reached w file blank_cells initial 0
+pub begins : (w : Window) (file : List ℕ) → Reached w file blank_cells initial file
 unfolding file_of
-begins w file = record {
-  inside = omega arith;
-  lines = omega arith;
-  s1 = omega arith;
-  size = blank_size;
-  course = refl;
-}
+begins w file = record { lines = omega arith; s1 = omega arith; size = blank_size; course = refl }
 
-module _ {w : Window} {file cs : List ℕ} {p : FileProgress} {at : ℕ} (r : Reached w file cs p at) where
+module _ {w : Window} {file cs : List ℕ} {p : FileProgress} {rest : List ℕ} (r : Reached w file cs p rest) where
   -- no line is left
-  pub ends : length file ≤ at → close_of w p cs ≡ file_of w file
-  unfolding file_from lines_of
-  ends h = rw (drop_of_length-le file {i = at} h) at r.course
+  module _ (h : length rest ≡ 0) where
+    ends : close_of w p cs ≡ file_of w file
+    unfolding file_from lines_of
+    ends = let none : rest ≡ [] = drop_of_length-le rest {i = 0} (omega arith) in rw none at r.course
 
-  -- the first n bytes of what is left are a line
-  module _ {n : ℕ} (h : at < length file) (e : n ≡ line_length (rest file at)) where
-    abbrev left : List ℕ
-    left = drop at file
+    pub unended : p.ended ≡ false → refused (refusal 25 (line_number p)) ≡ file_of w file
+    unended e = rw e at ends
 
-    some_left : 0 < length left
-    some_left = rw length-drop (omega arith)
+    module _ (e : p.ended ≡ true) where
+      pub ungiven : all_given (take w.length cs) ≡ false → refused (refusal 27 0) ≡ file_of w file
+      ungiven g = rw (e, g) at ends
 
-    of_left : n ≡ line_length left
-    of_left = rw rest_is at e
+      pub given : all_given (take w.length cs) ≡ true → named (take w.length cs) ≡ file_of w file
+      given g = rw (e, g) at ends
 
-    -- it has a byte or more, and all of them are the file's
-    pub line_fits : (0 < n) × (at + n ≤ length file)
-    line_fits =
-        let some = line_some left some_left in
-        let all = rw length-drop at (line_within left) in
-        (omega (arith, of_left), omega (arith, of_left))
-
-    by_line :
-        onward p (line_of w p cs (take n (rest file at))) (λ q ds. file_from w q ds (lines_of (drop (at + n) file)))
-        ≡ file_of w file
+  -- the first bytes of what is left are a line
+  module _ (some_left : 0 < length rest) where
+    by_line : {n : ℕ} → n ≡ line_length rest → onward p (line_of w p cs (take n rest))
+        (λ q ds. file_from w q ds (lines_of (drop n rest))) ≡ file_of w file
     unfolding file_from
-    by_line = rw (rest_is file at, of_left) (rw (first_line left some_left, drop-drop) at r.course)
+    by_line e = rw e (rw (first_line rest some_left) at r.course)
 
     -- it has a cause
-    pub stops : (m : ℕ) → line_of w p cs (take n (rest file at)) ≡ cause m
+    pub stops : {n m : ℕ} → n ≡ line_length rest → line_of w p cs (take n rest) ≡ cause m
         → refused (refusal m (line_number p)) ≡ file_of w file
-    stops m o = rw o at by_line
+    stops e o = rw o at (by_line e)
 
     -- it has none
-    pub goes_on : (q : FileProgress) (ds : List ℕ) → line_of w p cs (take n (rest file at)) ≡ next q ds
-        → length ds ≡ 4096 → Reached w file ds q (at + n)
-    goes_on q ds o z =
-        let m = one_more w p cs (take n (rest file at)) q ds o in
+    pub goes_on : {n : ℕ} → n ≡ line_length rest → {q : FileProgress} {ds : List ℕ}
+        → line_of w p cs (take n rest) ≡ next q ds → length ds ≡ 4096 → Reached w file ds q (drop n rest)
+    goes_on {n} e {q} {ds} o z =
+        let m = one_more w p cs (take n rest) q ds o in
+        let some = line_some rest some_left in
         record {
-          inside = line_fits.1;
-          lines = omega (arith, line_fits);
+          lines = simp length-drop (omega (arith, r.lines));
           s1 = omega arith;
           size = z;
-          course = rw o at by_line;
+          course = rw o at (by_line e);
         }

@@ -3,7 +3,7 @@
 use mathlib.Core.Path.{◌≡◌}
 use mathlib.Core.Bool.{cond}
 use mathlib.Core.List.{List}
-use mathlib.Core.Option.{none}
+use Rattle.std.specs.Prelude.{None}
 use Prim.Native.Nat.{ℕ, ◌+◌, ◌-◌, ◌≤◌, ◌<◌}
 use native.Mathlib.Numerals.{add-one}
 use native.Mathlib.Nat.{add-suc}
@@ -17,18 +17,18 @@ use Rattle.records.specs.Read.{enter, free}
 
 module _ (w : Window) (cs : List ℕ) (a : ℕ) (bs : List ℕ) (i : ℕ) (h : i < length bs) where
   next_byte : enter w cs (given_from (a + i) (drop i bs)) ≡ cond (free w cs (a + i))
-      (enter w (set cs (a + i - w.start) (get_or bs i 0)) (given_from (a + (i + 1)) (drop (i + 1) bs))) none
+      (enter w (set cs (a + i - w.start) (get_or bs i 0)) (given_from (a + (i + 1)) (drop (i + 1) bs))) None
   unfolding enter
   next_byte = rw (drop-cons bs i 0 h, add-one i, add-suc)
 
-  pub below : a + i < w.start → enter w cs (given_from (a + i) (drop i bs)) ≡ none
+  pub below : a + i < w.start → enter w cs (given_from (a + i) (drop i bs)) ≡ None
   below k = rw (next_byte, lt-leb w.start (a + i) k)
 
-  pub above : w.start + w.length ≤ a + i → enter w cs (given_from (a + i) (drop i bs)) ≡ none
+  pub above : w.start + w.length ≤ a + i → enter w cs (given_from (a + i) (drop i bs)) ≡ None
   above k = rw (next_byte, le-leb w.start (a + i) (omega arith), le-ltb (a + i) (w.start + w.length) k)
 
   pub twice : w.start ≤ a + i → a + i < w.start + w.length → get_or cs (a + i - w.start) 0 < 256
-      → enter w cs (given_from (a + i) (drop i bs)) ≡ none
+      → enter w cs (given_from (a + i) (drop i bs)) ≡ None
   twice k l g =
       rw (
         next_byte,

@@ -6,7 +6,7 @@ use mathlib.Core.Path.{◌≡◌, refl, ◌∙◌}
 use mathlib.Core.Logic.{◌⊎◌, inl, inr}
 use mathlib.Core.Bool.{true, and-eq-true_iff}
 use mathlib.Core.List.{List, [], ◌∷◌}
-use mathlib.Core.Option.{some}
+use Rattle.std.specs.Prelude.{Some}
 use native.Mathlib.Omega.{arith}
 use native.Mathlib.Decide.{ℕ_discrete}
 use borrow.Author.Tests.{le-leb, lt-ltb}
@@ -36,12 +36,12 @@ module _ (w : Window) where
   with cs x = set cs (x.address - w.start) x.byte
 
   -- the first of some bytes was free, and the others were entered after it
-  entered_first : (cs ds : List ℕ) (x : Given) (g : List Given) → enter w cs (x ∷ g) ≡ some ds
-      → (In w x.address × (256 ≤ get_or cs (x.address - w.start) 0)) × (enter w (with cs x) g ≡ some ds)
+  entered_first : (cs ds : List ℕ) (x : Given) (g : List Given) → enter w cs (x ∷ g) ≡ Some ds
+      → (In w x.address × (256 ≤ get_or cs (x.address - w.start) 0)) × (enter w (with cs x) g ≡ Some ds)
   unfolding enter
   entered_first cs ds x g e = let p = passed _ e in (free_says cs x.address p.0, p.1)
 
-  pub none_entered : (cs ds : List ℕ) → enter w cs [] ≡ some ds → cs ≡ ds
+  pub none_entered : (cs ds : List ℕ) → enter w cs [] ≡ Some ds → cs ≡ ds
   unfolding enter
   none_entered cs ds e = some_same e
 
@@ -54,7 +54,7 @@ module _ (w : Window) where
       apart h = omega arith
 
   -- what is given stays
-  pub stays : (g : List Given) (cs ds : List ℕ) → enter w cs g ≡ some ds → (j : ℕ) → get_or cs j 0 < 256
+  pub stays : (g : List Given) (cs ds : List ℕ) → enter w cs g ≡ Some ds → (j : ℕ) → get_or cs j 0 < 256
       → get_or ds j 0 ≡ get_or cs j 0
   stays [] cs ds e j h = rw (none_entered cs ds e)
   stays (x ∷ g) cs ds e j h =
@@ -63,7 +63,7 @@ module _ (w : Window) where
       stays g (with cs x) ds f.1 j (rw o h) ∙ o
 
   -- no byte is entered at an address that is given
-  apart_from : (a : ℕ) (g : List Given) (cs ds : List ℕ) → enter w cs g ≡ some ds → get_or cs (a - w.start) 0 < 256
+  apart_from : (a : ℕ) (g : List Given) (cs ds : List ℕ) → enter w cs g ≡ Some ds → get_or cs (a - w.start) 0 < 256
       → Every (λ (y : Given). y.address ≡ a → ⊥) g
   apart_from a [] cs ds e h = none
   apart_from a (y ∷ g) cs ds e h =
@@ -87,21 +87,21 @@ module _ (w : Window) where
     sized : (cs : List ℕ) (x : Given) → length cs ≡ 4096 → length (with cs x) ≡ 4096
     sized cs x size = length-set cs _ _ ∙ size
 
-    pub entered_once : (g : List Given) (cs ds : List ℕ) → length cs ≡ 4096 → Bytes g → enter w cs g ≡ some ds → Once g
+    pub entered_once : (g : List Given) (cs ds : List ℕ) → length cs ≡ 4096 → Bytes g → enter w cs g ≡ Some ds → Once g
     entered_once [] cs ds size b e = Once.none
     entered_once (x ∷ g) cs ds size (more h b) e =
         let f = entered_first cs ds x g e in
         Once.more (apart_from x.address g (with cs x) ds f.1 (rw (own cs x size f.0.0) h))
         (entered_once g (with cs x) ds (sized cs x size) b f.1)
 
-    pub entered_inside : (g : List Given) (cs ds : List ℕ) → enter w cs g ≡ some ds
+    pub entered_inside : (g : List Given) (cs ds : List ℕ) → enter w cs g ≡ Some ds
         → Every (λ (x : Given). In w x.address) g
     entered_inside [] cs ds e = none
     entered_inside (x ∷ g) cs ds e =
         let f = entered_first cs ds x g e in more f.0.0 (entered_inside g (with cs x) ds f.1)
 
     -- each byte is found at its place
-    pub found : (g : List Given) (cs ds : List ℕ) → length cs ≡ 4096 → Bytes g → enter w cs g ≡ some ds → (x : Given)
+    pub found : (g : List Given) (cs ds : List ℕ) → length cs ≡ 4096 → Bytes g → enter w cs g ≡ Some ds → (x : Given)
         → Gives x g → get_or ds (x.address - w.start) 0 ≡ x.byte
     found [] cs ds size b e y r = elim r [ ]
     found (x ∷ g) cs ds size (more h b) e y here =
@@ -111,7 +111,7 @@ module _ (w : Window) where
     found (x ∷ g) cs ds size (more h b) e y (there r) =
         let f = entered_first cs ds x g e in found g (with cs x) ds (sized cs x size) b f.1 y r
 
-    pub entered_size : (g : List Given) (cs ds : List ℕ) → length cs ≡ 4096 → enter w cs g ≡ some ds
+    pub entered_size : (g : List Given) (cs ds : List ℕ) → length cs ≡ 4096 → enter w cs g ≡ Some ds
         → length ds ≡ 4096
     entered_size [] cs ds size e = rw (← none_entered cs ds e) size
     entered_size (x ∷ g) cs ds size e =
@@ -122,12 +122,12 @@ module _ (w : Window) where
     at ds j = record { address = w.start + j; byte = get_or ds j 0 }
 
     -- a cell is as it was, or was given
-    pub old_or_given : (g : List Given) (cs ds : List ℕ) → length cs ≡ 4096 → enter w cs g ≡ some ds → (j : ℕ)
+    pub old_or_given : (g : List Given) (cs ds : List ℕ) → length cs ≡ 4096 → enter w cs g ≡ Some ds → (j : ℕ)
         → (get_or ds j 0 ≡ get_or cs j 0) ⊎ Gives (at ds j) g
     old_or_given [] cs ds size e j = inl (rw (none_entered cs ds e))
     old_or_given (x ∷ g) cs ds size e j = by_rest (old_or_given g (with cs x) ds (sized cs x size) f.1 j)
       where
-        f : (In w x.address × (256 ≤ get_or cs (x.address - w.start) 0)) × (enter w (with cs x) g ≡ some ds)
+        f : (In w x.address × (256 ≤ get_or cs (x.address - w.start) 0)) × (enter w (with cs x) g ≡ Some ds)
         f = entered_first cs ds x g e
 
         by_cell : get_or ds j 0 ≡ get_or (with cs x) j 0 → Dec (j ≡ x.address - w.start)
@@ -145,7 +145,7 @@ module _ (w : Window) where
     -- bytes of the window, none twice and none at an address that is given, can be entered
     pub entered : (g : List Given) (cs : List ℕ) → length cs ≡ 4096 → Once g
         → Every (λ (x : Given). In w x.address × (256 ≤ get_or cs (x.address - w.start) 0)) g
-        → (ds : List ℕ) × (enter w cs g ≡ some ds)
+        → (ds : List ℕ) × (enter w cs g ≡ Some ds)
     unfolding enter
     entered [] cs size o h = (cs, refl)
     entered (x ∷ g) cs size (Once.more apart o) (more free_x h) =

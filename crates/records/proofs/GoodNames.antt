@@ -5,7 +5,7 @@ use mathlib.Core.Path.{◌≡◌, refl, sym, ◌∙◌}
 use mathlib.Core.Logic.{◌⊎◌, inl, inr}
 use mathlib.Core.Bool.{Bool, true, false, cond, false≢true}
 use mathlib.Core.List.{List, [], ◌∷◌, ◌++◌, append-nil}
-use mathlib.Core.Option.{some}
+use Rattle.std.specs.Prelude.{Some}
 use native.Mathlib.Omega.{arith}
 use native.Mathlib.Nat.{add-zero}
 use native.Mathlib.Numerals.{add-one}
@@ -37,7 +37,7 @@ record ReadSo (w : Window) (n : ℕ) (cs : List ℕ) (ls : List (List ℕ)) (ima
   given : List Given
   cells : List ℕ
   records : Records n (joined ls) given
-  entered_so : enter w cs given ≡ some cells
+  entered_so : enter w cs given ≡ Some cells
   image_is : image ≡ take w.length cells
   whole : all_given image ≡ true
 
@@ -100,7 +100,7 @@ module _ (w : Window) where
     with_line (Line.s1 t) h onward =
         let r = onward (rw (left.after_is, t)) in
         let more : q.s1 ≡ suc p.s1 = rw (left.after_is, t, add-one) in
-        let entered_first : enter w cs (given_from (address_of bs) (data_of bs)) ≡ some ds = rw t at left.entered in
+        let entered_first : enter w cs (given_from (address_of bs) (data_of bs)) ≡ Some ds = rw t at left.entered in
         record {
           given = given_from (address_of bs) (data_of bs) ++ r.given;
           cells = r.cells;

@@ -4,7 +4,7 @@ use Prim.Native.Nat.{ℕ, ◌+◌, ◌%◌, ◌≤◌}
 use mathlib.Core.Path.{◌≡◌, refl}
 use mathlib.Core.Bool.{Bool, true, false, cond, not, ◌&&◌, and-eq-true_iff, false≢true}
 use mathlib.Core.List.{List, [], ◌∷◌, ◌++◌}
-use mathlib.Core.Option.{Option, none, some}
+use Rattle.std.specs.Prelude.{Option, None, Some}
 use native.Mathlib.Omega.{arith}
 use lib.Dec.{eqb}
 use lib.ListN.{length, get_or, drop}
@@ -26,20 +26,20 @@ cause_next n q cs e = let z : ◌≡◌ {A = ℕ} 0 1 = cc in omega arith
 -- what is known of a line that leaves something for the next
 pub record Left (w : Window) (p : FileProgress) (cs l : List ℕ) (q : FileProgress) (ds : List ℕ) : Type 0 where
   pub bytes : List ℕ
-  pub read : bytes_of (drop 2 l) ≡ some bytes
+  pub read : bytes_of (drop 2 l) ≡ Some bytes
   pub running : p.ended ≡ false
   pub begins : get_or l 0 0 ≡ 0x53
   pub formed_so : formed (get_or l 1 0) p.s1 bytes ≡ true
   pub summed : sum bytes % 256 ≡ 255
-  pub entered : enter w cs (given_by (get_or l 1 0) bytes) ≡ some ds
+  pub entered : enter w cs (given_by (get_or l 1 0) bytes) ≡ Some ds
   pub after_is : q ≡ after p (get_or l 1 0)
 
 module _ (w : Window) (p : FileProgress) (cs l : List ℕ) (q : FileProgress) (ds : List ℕ) where
-  by_entering : (t : ℕ) (o : Option (List ℕ)) → entered_as p t o ≡ next q ds → (o ≡ some ds) × (q ≡ after p t)
-  by_entering t none e = absurd (cause_next _ _ _ e)
-  by_entering t (some es) e = (cc, cc)
+  by_entering : (t : ℕ) (o : Option (List ℕ)) → entered_as p t o ≡ next q ds → (o ≡ Some ds) × (q ≡ after p t)
+  by_entering t None e = absurd (cause_next _ _ _ e)
+  by_entering t (Some es) e = (cc, cc)
 
-  by_tests : (bs : List ℕ) → bytes_of (drop 2 l) ≡ some bs → (b c : Bool)
+  by_tests : (bs : List ℕ) → bytes_of (drop 2 l) ≡ Some bs → (b c : Bool)
       → (not p.ended && (eqb (get_or l 0 0) 0x53 && formed (get_or l 1 0) p.s1 bs)) ≡ b
       → eqb (sum bs % 256) 255 ≡ c
       → let t = get_or l 1 0 in
@@ -64,8 +64,8 @@ module _ (w : Window) (p : FileProgress) (cs l : List ℕ) (q : FileProgress) (d
   by_bytes : (o : Option (List ℕ)) → bytes_of (drop 2 l) ≡ o → line_by w p cs (get_or l 0 0) (get_or l 1 0) o
       ≡ next q ds
       → Left w p cs l q ds
-  by_bytes none r e = absurd (cause_next _ _ _ e)
-  by_bytes (some bs) r e = by_tests bs r _ _ refl refl e
+  by_bytes None r e = absurd (cause_next _ _ _ e)
+  by_bytes (Some bs) r e = by_tests bs r _ _ refl refl e
 
   pub line_left : line_of w p cs l ≡ next q ds → Left w p cs l q ds
   unfolding line_of

@@ -1,14 +1,11 @@
 -- The lines of a file, one by one.
 -- Assumes nothing.
-use mathlib.Core.Path.{◌≡◌, refl}
-use mathlib.Core.Bool.{Bool, true, false, cond}
-use mathlib.Core.List.{List, [], ◌∷◌}
-use Prim.Native.Nat.{ℕ, suc, ◌+◌, ◌≤◌, ◌<◌}
-use native.Mathlib.Numerals.{add-one}
-use native.Mathlib.Omega.{arith}
-use lib.Dec.{eqb}
-use lib.ListN.{length, take, drop, get_or}
-use lib.Seq.{drop-cons}
+use Rattle.std.proofs.Common.{◌≡◌, ℕ, suc, ◌+◌, ◌≤◌, ◌<◌, min, Bool, true, false, cond, not, eqb, ltb, List, [], ◌∷◌}
+use Rattle.std.proofs.Common.{length, take}
+use Rattle.std.proofs.Common.{drop, length-drop, Option, Some, None, refl, arith}
+use Rattle.std.specs.List.{position_or_len}
+use borrow.Author.Tests.{ltb-true, ltb-false}
+use Rattle.records.proofs.Inverse.{some_same}
 use Rattle.records.specs.Read.{onto, lines_of}
 use Rattle.records.specs.inner.Decoded.{line_length}
 
@@ -36,21 +33,40 @@ line_some (b ∷ s) h = some (eqb b 0x0a)
     some true = omega arith
     some false = omega arith
 
--- at the next byte
-pub next_byte : (s : List ℕ) (i : ℕ) → i < length s
-    → line_length (drop i s) ≡ cond (eqb (get_or s i 0) 0x0a) 1 (suc (line_length (drop (i + 1) s)))
-unfolding line_length
-next_byte s i h = rw (drop-cons s i 0 h, add-one)
+-- so the others have fewer bytes
+pub shorter : (s : List ℕ) {n : ℕ} → 0 < length s → n ≡ line_length s → length (drop n s) < length s
+shorter s {n} some e = omega (arith, length-drop n s, line_some s some)
 
-pub no_byte : line_length [] ≡ 0
-unfolding line_length
-no_byte = refl
+-- by the place of the first LF, or the length where there is none
+abbrev pub place : List ℕ → ℕ
+place = position_or_len (λ b. eqb b 0x0a)
 
-pub line_within : (s : List ℕ) → line_length s ≤ length s
+line_is : (s : List ℕ) → line_length s ≡ min (place s + 1) (length s)
 unfolding line_length
-line_within [] = omega arith
-line_within (b ∷ s) = within (eqb b 0x0a) (line_within s)
+line_is [] = omega arith
+line_is (b ∷ s) = by (eqb b 0x0a) (line_is s)
   where
-    within : (t : Bool) → line_length s ≤ length s → cond t 1 (suc (line_length s)) ≤ suc (length s)
-    within true h = omega arith
-    within false h = omega arith
+    by : (t : Bool) → line_length s ≡ min (place s + 1) (length s)
+        → cond t 1 (suc (line_length s)) ≡ min (cond (not t) (1 + place s) 0 + 1) (suc (length s))
+    by true h = omega arith
+    by false h = omega arith
+
+pub found : (s : List ℕ) (i : ℕ) → Some i ≡ cond (ltb (place s) (length s)) (Some (place s)) None
+    → (i + 1 ≡ line_length s) × (i + 1 ≤ length s)
+found s i = by (ltb (place s) (length s)) refl
+  where
+    by : (t : Bool) → ltb (place s) (length s) ≡ t → Some i ≡ cond t (Some (place s)) None
+        → (i + 1 ≡ line_length s) × (i + 1 ≤ length s)
+    by true e h =
+        let within = ltb-true (place s) (length s) e in
+        let same : i ≡ place s = some_same h in
+        (omega (arith, line_is s), omega arith)
+    by false e h = absurd cc
+
+pub missing : (s : List ℕ) → None ≡ cond (ltb (place s) (length s)) (Some (place s)) None → length s ≡ line_length s
+missing s = by (ltb (place s) (length s)) refl
+  where
+    by : (t : Bool) → ltb (place s) (length s) ≡ t → ◌≡◌ {A = Option ℕ} None (cond t (Some (place s)) None)
+        → length s ≡ line_length s
+    by true e h = absurd cc
+    by false e h = let past = ltb-false (place s) (length s) e in omega (arith, line_is s)

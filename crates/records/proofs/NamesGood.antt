@@ -5,7 +5,7 @@ use mathlib.Core.Path.{◌≡◌, refl, sym, ap, ◌∙◌}
 use mathlib.Core.Logic.{◌↔◌}
 use mathlib.Core.Bool.{true, false}
 use mathlib.Core.List.{List, [], ◌++◌, append-nil}
-use mathlib.Core.Option.{some}
+use Rattle.std.specs.Prelude.{Some}
 use native.Mathlib.Omega.{arith}
 use native.Mathlib.Nat.{add-zero}
 use native.Mathlib.Numerals.{add-one}
@@ -35,7 +35,7 @@ module _ (w : Window) (fits : w.length ≤ 4096) where
   -- a record before other lines is read, and what it gives is entered
   record_step : {t a : ℕ} {bytes l : List ℕ} (r : Record t a bytes l) → (t ≡ 0x0a → ⊥) → (s : List ℕ) (p : FileProgress)
       (cs es : List ℕ) → p.ended ≡ false → typed t p.s1 (inside r) ≡ true
-      → enter w cs (given_by t (inside r)) ≡ some es
+      → enter w cs (given_by t (inside r)) ≡ Some es
       → file_from w p cs (lines_of (l ++ s)) ≡ file_from w (after p t) es (lines_of s)
   unfolding file_from
   record_step r other s p cs es running typed_so e =
@@ -45,7 +45,7 @@ module _ (w : Window) (fits : w.length ≤ 4096) where
   abbrev Closes : FileProgress → List ℕ → List (List ℕ) → List ℕ → Type 0
   Closes p cs ls ds = (q : FileProgress) × (q.ended ≡ true) × (file_from w p cs ls ≡ close_of w q ds)
 
-  entered_none : (cs : List ℕ) → enter w cs [] ≡ some cs
+  entered_none : (cs : List ℕ) → enter w cs [] ≡ Some cs
   unfolding enter
   entered_none cs = refl
 
@@ -57,7 +57,7 @@ module _ (w : Window) (fits : w.length ≤ 4096) where
   no_line p cs = refl
 
   closes : {n : ℕ} {s : List ℕ} {g : List Given} → Records n s g → (p : FileProgress) → p.s1 ≡ n → p.ended ≡ false
-      → (cs ds : List ℕ) → enter w cs g ≡ some ds → Closes p cs (lines_of s) ds
+      → (cs ds : List ℕ) → enter w cs g ≡ Some ds → Closes p cs (lines_of s) ds
   closes (s0 {s = s} r rest) p count running cs ds e =
       let c = closes rest (after p 0x30) (add-zero p.s1 ∙ count) refl cs ds e in
       (c.0, c.1, record_step r (λ x. omega arith) s p cs cs running refl (entered_none cs) ∙ c.2)
@@ -80,7 +80,7 @@ module _ (w : Window) (fits : w.length ≤ 4096) where
     free_all : Every (λ (x : Given). In w x.address × (256 ≤ get_or blank_cells (x.address - w.start) 0)) n.given
     free_all = every_map (λ x i. (i, omega (arith, blank_at (x.address - w.start) (omega arith)))) n.inside
 
-    cells : (ds : List ℕ) × (enter w blank_cells n.given ≡ some ds)
+    cells : (ds : List ℕ) × (enter w blank_cells n.given ≡ Some ds)
     cells = entered w fits n.given blank_cells blank_size n.once free_all
 
     bytes_given : Every IsByte n.given

@@ -4,7 +4,7 @@ use Prim.Native.Nat.{ℕ, ◌%◌}
 use mathlib.Core.Path.{◌≡◌}
 use mathlib.Core.Bool.{Bool, true, false, cond, not, ◌&&◌}
 use mathlib.Core.List.{List, [], ◌∷◌}
-use mathlib.Core.Option.{Option, none, some}
+use Rattle.std.specs.Prelude.{Option, None, Some}
 use native.Mathlib.Omega.{arith}
 use lib.Dec.{eqb}
 use lib.ListN.{get_or, take, drop}
@@ -28,8 +28,8 @@ OfFile (named image) = Unit
 OfFile (refused r) = Between 25 27 r.number
 
 entered_numbered : (p : FileProgress) (t : ℕ) (o : Option (List ℕ)) → OfLine (entered_as p t o)
-entered_numbered p t none = search arith
-entered_numbered p t (some cs) = tt
+entered_numbered p t None = search arith
+entered_numbered p t (Some cs) = tt
 
 tests_numbered : (b c : Bool) (o : LineOutcome) → OfLine o → OfLine (cond b (cond c o (cause 26)) (cause 25))
 tests_numbered false c o h = search arith
@@ -38,8 +38,8 @@ tests_numbered true true o h = h
 
 line_numbered : (w : Window) (p : FileProgress) (cs : List ℕ) (s t : ℕ) (o : Option (List ℕ)) →
     OfLine (line_by w p cs s t o)
-line_numbered w p cs s t none = search arith
-line_numbered w p cs s t (some bs) =
+line_numbered w p cs s t None = search arith
+line_numbered w p cs s t (Some bs) =
     tests_numbered (not p.ended && (eqb s 0x53 && formed t p.s1 bs)) (eqb (sum bs % 256) 255)
     (entered_as p t (enter w cs (given_by t bs))) (entered_numbered p t (enter w cs (given_by t bs)))
 

@@ -4,7 +4,7 @@ use Prim.Native.Nat.{ℕ, ◌+◌, ◌-◌, ◌%◌, ◌≤◌, ◌<◌}
 use mathlib.Core.Path.{◌≡◌, refl, sym, ap, ◌∙◌}
 use mathlib.Core.Bool.{true, and-eq-true_iff}
 use mathlib.Core.List.{List, [], ◌∷◌, ◌++◌}
-use mathlib.Core.Option.{some, none-ne-some}
+use Rattle.std.specs.Prelude.{Some}
 use native.Mathlib.Omega.{arith}
 use native.Mathlib.Numerals.{add-one}
 use lib.ListN.{length, get_or, take, drop, length-append}
@@ -43,7 +43,7 @@ module _ {type address : ℕ} {bytes line : List ℕ} (r : Record type address b
   abbrev pub inside : List ℕ
   inside = encoded r.high r.low r.checksum bytes
 
-  pub record_read : bytes_of (drop 2 line) ≡ some inside
+  pub record_read : bytes_of (drop 2 line) ≡ Some inside
   record_read = rw r.line_is (spelled r.spelled r.ended)
 
   pub record_begins : (get_or line 0 0 ≡ 0x53) × (get_or line 1 0 ≡ type)
@@ -105,11 +105,11 @@ last_byte [] c (more b none) = b
 last_byte (x ∷ xs) c (more b bs) = last_byte xs c bs
 
 -- a line that is read as a record is one
-pub is_record : (line bs : List ℕ) → get_or line 0 0 ≡ 0x53 → bytes_of (drop 2 line) ≡ some bs → Formed bs
+pub is_record : (line bs : List ℕ) → get_or line 0 0 ≡ 0x53 → bytes_of (drop 2 line) ≡ Some bs → Formed bs
     → sum bs % 256 ≡ 255 → Record (get_or line 1 0) (address_of bs) (data_of bs) line
 unfolding bytes_of
-is_record [] bs s e f c = absurd (none-ne-some _ e)
-is_record (x ∷ []) bs s e f c = absurd (none-ne-some _ e)
+is_record [] bs s e f c = absurd cc
+is_record (x ∷ []) bs s e f c = absurd cc
 is_record (x ∷ t ∷ rest) bs s e f c = of_spelled (read_spelled rest bs e)
   where
     of_spelled : Spelled rest bs → Record t (address_of bs) (data_of bs) (x ∷ t ∷ rest)

@@ -1,10 +1,10 @@
 -- What digits spell up to a line's end, both ways: by the definition of hexadecimal and as it is computed.
 -- Assumes nothing.
 use Prim.Native.Nat.{ℕ, ◌+◌, ◌-◌, ◌*◌, ◌≤◌, ◌<◌}
-use mathlib.Core.Path.{◌≡◌, refl}
+use mathlib.Core.Path.{◌≡◌, refl, ap}
 use mathlib.Core.Bool.{Bool, true, false, cond, and-eq-true_iff, false≢true}
 use mathlib.Core.List.{List, [], ◌∷◌, ◌++◌}
-use mathlib.Core.Option.{Option, none, some, none-ne-some}
+use Rattle.std.specs.Prelude.{Option, None, Some}
 use native.Mathlib.Omega.{arith}
 use lib.Dec.{leb, ltb}
 use borrow.Author.Tests.{leb-true, ltb-false, le-leb, lt-leb, lt-ltb, le-ltb, eqb-true, ne_eqb}
@@ -13,14 +13,14 @@ use Rattle.commands.specs.Every.{Every}
 use Rattle.commands.specs.Number.{AllBytes}
 use Rattle.ticket.proofs.Says.{ltb_says, eqb_says}
 use Rattle.records.specs.Record.{Digit, decimal, upper, lower, Hex, more, LineEnd, lf, cr_lf}
-use Rattle.records.specs.Read.{ends_of, is_pair, pair_of, before, bytes_of}
+use Rattle.records.specs.Read.{ends_of, pair_of, before, bytes_of}
 use Rattle.records.proofs.Inverse.{some_same}
 
 -- a digit has its value
-digit_is : {c v : ℕ} → Digit c v → (digit_of c ≡ v) × (v < 16)
+digit_is : {c v : ℕ} → Digit c v → (digit_of c ≡ Some v) × (v < 16)
 unfolding digit_of
 digit_is (decimal {v = v} h) = (
-  simp (le-ltb (0x30 + v) 48 (omega arith), le-leb (0x30 + v) 57 (omega arith)) (omega arith),
+  simp (le-ltb (0x30 + v) 48 (omega arith), le-leb (0x30 + v) 57 (omega arith)) (ap Some (omega arith)),
   omega arith,
 )
 digit_is (upper {v = v} h) = (
@@ -29,7 +29,7 @@ digit_is (upper {v = v} h) = (
     lt-leb (0x41 + v) 57 (omega arith),
     le-ltb (0x41 + v) 65 (omega arith),
     le-leb (0x41 + v) 70 (omega arith),
-  ) (omega arith),
+  ) (ap Some (omega arith)),
   omega arith,
 )
 digit_is (lower {v = v} h) = (
@@ -40,33 +40,32 @@ digit_is (lower {v = v} h) = (
     lt-leb (0x61 + v) 70 (omega arith),
     le-ltb (0x61 + v) 97 (omega arith),
     le-leb (0x61 + v) 102 (omega arith),
-  ) (omega arith),
+  ) (ap Some (omega arith)),
   omega arith,
 )
 
 digit_at : {c v x y : ℕ} → Digit x y → x ≡ c → y ≡ v → Digit c v
 digit_at d e f = rw (e, f) at d
 
--- by the two tests of a range of digits, the others' value at hand
-by_range : (c lo hi k rest : ℕ) → (lo ≤ c → c ≤ hi → Digit c (c - k)) → (rest < 16 → Digit c rest)
-    → cond (ltb c lo) 16 (cond (leb c hi) (c - k) rest) < 16
-    → Digit c (cond (ltb c lo) 16 (cond (leb c hi) (c - k) rest))
-by_range c lo hi k rest inside other = by_tests (ltb c lo) refl (leb c hi) refl
+-- by the two tests of a range of digits, the others at hand
+by_range : (c v lo hi k : ℕ) (rest : Option ℕ) → (lo ≤ c → c ≤ hi → c - k ≡ v → Digit c v) → (rest ≡ Some v → Digit c v)
+    → cond (ltb c lo) None (cond (leb c hi) (Some (c - k)) rest) ≡ Some v → Digit c v
+by_range c v lo hi k rest inside other = by_tests (ltb c lo) refl (leb c hi) refl
   where
-    by_tests : (s : Bool) → ltb c lo ≡ s → (t : Bool) → leb c hi ≡ t → cond s 16 (cond t (c - k) rest) < 16
-        → Digit c (cond s 16 (cond t (c - k) rest))
-    by_tests true e t f h = absurd (omega arith)
-    by_tests false e true f h = inside (ltb-false _ _ e) (leb-true _ _ f)
+    by_tests : (s : Bool) → ltb c lo ≡ s → (t : Bool) → leb c hi ≡ t
+        → cond s None (cond t (Some (c - k)) rest) ≡ Some v → Digit c v
+    by_tests true e t f h = absurd cc
+    by_tests false e true f h = inside (ltb-false _ _ e) (leb-true _ _ f) (some_same h)
     by_tests false e false f h = other h
 
--- what has a value below 16 is a digit
-is_digit : (c : ℕ) → digit_of c < 16 → Digit c (digit_of c)
+-- what has a value is a digit
+is_digit : (c v : ℕ) → digit_of c ≡ Some v → Digit c v
 unfolding digit_of
-is_digit c =
-    by_range c 48 57 48 _ (λ l h. digit_at (decimal {v = c - 48} (omega arith)) (omega arith) refl)
-    (by_range c 65 70 55 _ (λ l h. digit_at (upper {v = c - 65} (omega arith)) (omega arith) (omega arith))
-    (by_range c 97 102 87 16 (λ l h. digit_at (lower {v = c - 97} (omega arith)) (omega arith) (omega arith))
-    (λ h. absurd (omega arith))))
+is_digit c v =
+    by_range c v 48 57 48 _ (λ l h e. digit_at (decimal {v = c - 48} (omega arith)) (omega arith) e)
+    (by_range c v 65 70 55 _ (λ l h e. digit_at (upper {v = c - 65} (omega arith)) (omega arith) (omega arith))
+    (by_range c v 97 102 87 None (λ l h e. digit_at (lower {v = c - 97} (omega arith)) (omega arith) (omega arith))
+    (λ h. absurd cc)))
 
 pub digit_above : {c v : ℕ} → Digit c v → 0x30 ≤ c
 digit_above (decimal h) = omega arith
@@ -79,21 +78,12 @@ not_ending {c = c} h d [] = simp (ne_eqb c 0x0d (omega (arith, digit_above h)))
 not_ending h d (e ∷ s) = refl
 
 -- what is spelled is read
-pub spelled : {cs bs ending : List ℕ} → Hex cs bs → LineEnd ending → bytes_of (cs ++ ending) ≡ some bs
+pub spelled : {cs bs ending : List ℕ} → Hex cs bs → LineEnd ending → bytes_of (cs ++ ending) ≡ Some bs
 unfolding bytes_of
 spelled Hex.none lf = refl
 spelled Hex.none cr_lf = refl
 spelled {ending = ending} (more {c = c} {d = d} {cs = cs} ch dl r) e =
-    let high = digit_is ch in
-    let low = digit_is dl in
-    rw (
-      not_ending ch d (cs ++ ending),
-      high.0,
-      low.0,
-      lt-ltb _ _ high.1,
-      lt-ltb _ _ low.1,
-      spelled r e,
-    )
+    rw (not_ending ch d (cs ++ ending), (digit_is ch).0, (digit_is dl).0, spelled r e)
 
 pub hex_bytes : {cs bs : List ℕ} → Hex cs bs → AllBytes bs
 hex_bytes Hex.none = Every.none
@@ -116,45 +106,46 @@ ended_so (c ∷ d ∷ []) e =
 ended_so (c ∷ d ∷ f ∷ s) e = absurd (false≢true e)
 
 -- no digits are left
-at_end : {s bs : List ℕ} → ends_of s ≡ true → some [] ≡ some bs → Spelled s bs
+at_end : {s bs : List ℕ} → ends_of s ≡ true → Some [] ≡ Some bs → Spelled s bs
 at_end {s = s} t e =
     record { digits = []; ending = s; hex = rw (← some_same e) Hex.none; ended = ended_so s t; all = refl }
 
 -- a byte before others
-before_some : (x : List ℕ) (o : Option (List ℕ)) (bs : List ℕ) → before x o ≡ some bs
-    → (ys : List ℕ) × (o ≡ some ys) × (x ++ ys ≡ bs)
-before_some x none bs e = absurd (none-ne-some _ e)
-before_some x (some ys) bs e = (ys, refl, some_same e)
+before_some : (x : ℕ) (o : Option (List ℕ)) (bs : List ℕ) → before (Some x) o ≡ Some bs
+    → (ys : List ℕ) × (o ≡ Some ys) × (x ∷ ys ≡ bs)
+before_some x None bs e = absurd cc
+before_some x (Some ys) bs e = (ys, refl, some_same e)
 
 -- two digits before others
-pair_spelled : {s bs : List ℕ} (c d : ℕ) → digit_of c < 16 → digit_of d < 16 → Spelled s bs
-    → Spelled (c ∷ d ∷ s) ((pair_of c d ∷ []) ++ bs)
-pair_spelled c d h l rest =
+pair_spelled : {s bs : List ℕ} (c d h l : ℕ) → digit_of c ≡ Some h → digit_of d ≡ Some l → Spelled s bs
+    → Spelled (c ∷ d ∷ s) ((16 * h + l) ∷ bs)
+pair_spelled c d h l high low rest =
     record {
       digits = c ∷ d ∷ rest.digits;
       ending = rest.ending;
-      hex = more (is_digit c h) (is_digit d l) rest.hex;
+      hex = more (is_digit c h high) (is_digit d l low) rest.hex;
       ended = rest.ended;
       all = rw (← rest.all);
     }
 
 -- what is read is spelled
-pub read_spelled : (s bs : List ℕ) → bytes_of s ≡ some bs → Spelled s bs
+pub read_spelled : (s bs : List ℕ) → bytes_of s ≡ Some bs → Spelled s bs
 unfolding bytes_of
-read_spelled [] bs e = absurd (none-ne-some _ e)
+read_spelled [] bs e = absurd cc
 read_spelled (c ∷ []) bs e = by_end (ends_of (c ∷ [])) refl e
   where
-    by_end : (t : Bool) → ends_of (c ∷ []) ≡ t → cond t (some []) none ≡ some bs → Spelled (c ∷ []) bs
+    by_end : (t : Bool) → ends_of (c ∷ []) ≡ t → cond t (Some []) None ≡ Some bs → Spelled (c ∷ []) bs
     by_end true f e = at_end f e
-    by_end false f e = absurd (none-ne-some bs e)
-read_spelled (c ∷ d ∷ s) bs e = by_tests (read_spelled s) (ends_of (c ∷ d ∷ s)) refl (is_pair c d) refl e
+    by_end false f e = absurd cc
+read_spelled (c ∷ d ∷ s) bs e =
+    by_tests (read_spelled s) (ends_of (c ∷ d ∷ s)) refl (digit_of c) refl (digit_of d) refl e
   where
-    by_tests : ((ys : List ℕ) → bytes_of s ≡ some ys → Spelled s ys) → (t : Bool) → ends_of (c ∷ d ∷ s) ≡ t
-        → (p : Bool) → is_pair c d ≡ p
-        → cond t (some []) (cond p (before (pair_of c d ∷ []) (bytes_of s)) none) ≡ some bs → Spelled (c ∷ d ∷ s) bs
-    by_tests onward true f p q e = at_end f e
-    by_tests onward false f false q e = absurd (none-ne-some _ e)
-    by_tests onward false f true q e =
-        let b = before_some (pair_of c d ∷ []) (bytes_of s) bs e in
-        let h = simp (and-eq-true_iff, ltb_says) at q in
-        rw b.2 at (pair_spelled c d h.0 h.1 (onward b.0 b.1))
+    by_tests : ((ys : List ℕ) → bytes_of s ≡ Some ys → Spelled s ys) → (t : Bool) → ends_of (c ∷ d ∷ s) ≡ t
+        → (h : Option ℕ) → digit_of c ≡ h → (l : Option ℕ) → digit_of d ≡ l
+        → cond t (Some []) (before (pair_of h l) (bytes_of s)) ≡ Some bs → Spelled (c ∷ d ∷ s) bs
+    by_tests onward true f h p l q e = at_end f e
+    by_tests onward false f None p l q e = absurd cc
+    by_tests onward false f (Some m) p None q e = absurd cc
+    by_tests onward false f (Some m) p (Some n) q e =
+        let b = before_some (16 * m + n) (bytes_of s) bs e in
+        rw b.2 at (pair_spelled c d m n p q (onward b.0 b.1))

@@ -3,6 +3,7 @@
 -- Assumes nothing.
 use Rattle.std.specs.Prelude.{ℕ, ◌+◌, ◌-◌, ◌*◌, ◌%◌, Bool, true, false, cond, not, ◌&&◌, List, [], ◌∷◌, ◌++◌, eqb, leb}
 use Rattle.std.specs.Prelude.{ltb, length, get_or, set, take, drop, replicate, Option, Some, None}
+use Rattle.std.specs.List.{list_all}
 use Rattle.lists.specs.Digit.{digit_of}
 use Rattle.lists.specs.Bit.{one}
 use Rattle.answers.specs.declared.Refusal.{Refusal}
@@ -120,8 +121,7 @@ abbrev pub line_number : FileProgress → ℕ
 line_number p = (p.lines + 1) % 4294967296
 
 abbrev pub all_given : List ℕ → Bool
-all_given [] = true
-all_given (c ∷ cs) = ltb c 256 && all_given cs
+all_given = list_all (λ c. ltb c 256)
 
 -- after the last line. 25: S9 is absent; 27: a byte was never given
 abbrev pub close_of : Window → FileProgress → List ℕ → FileOutcome

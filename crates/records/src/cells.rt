@@ -52,7 +52,8 @@ pub fn copy(cells: &[u16], image: &mut [u8])
     requires { (length cells.now ≡ length image.old) × (all_given cells.now ≡ true) }
     ensures { image.new ≡ cells.now }
 {
-    for (byte, cell) in image.iter_mut().zip(cells) {
-        *byte = *cell as u8;
+    // no `zip`: a loop's invariant names nothing behind its `iter_mut`
+    for (i, byte) in image.iter_mut().enumerate() {
+        *byte = cells[i] as u8;
     }
 }

@@ -13,6 +13,7 @@ fn ends(s: &[u8]) -> bool
 }
 
 // Up to the line's end, into a buffer: how many bytes. More than 256 bytes are more than a count says.
+#[tactic(auto, using(crate::proofs::DecodeSoFar::so_far_none, crate::proofs::DecodeSoFar::ended_full, crate::proofs::DecodeSoFar::too_many, crate::proofs::DecodeSoFar::cut_short, crate::proofs::DecodeSoFar::no_high, crate::proofs::DecodeSoFar::no_low))]
 pub fn decode(s: &[u8], buffer: &mut [u8; 256]) -> Option<usize>
     ensures { (decoded result buffer.new ≡ countable (bytes_of s.now)) × IfSome result (λ n. n ≤ 256) }
 {
@@ -27,5 +28,5 @@ pub fn decode(s: &[u8], buffer: &mut [u8; 256]) -> Option<usize>
         *byte = digit(*high)? * 16 + digit(*low)?;
         rest = after;
     }
-    ends(rest).then_some(256)
+    if ends(rest) { Some(256) } else { None }
 }

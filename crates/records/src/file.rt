@@ -11,7 +11,6 @@ use answers::{Refusal, refuse};
 use commands::header::Window;
 
 // How many bytes the first line has, its LF included; the last may have none.
-#[tactic(auto, using(crate::proofs::Lines::next_byte))]
 fn line_length(s: &[u8]) -> usize
     ensures { (result ≡ line_length s.now) × (result ≤ length s.now) }
 {
@@ -29,7 +28,7 @@ fn refused_at(number: u8, p: FileProgress) -> Refusal
     refuse(number, ((p.lines + 1) % 4294967296) as u32)
 }
 
-#[tactic(auto, using(crate::proofs::Course::begins, crate::proofs::Course::ends, crate::proofs::Course::line_fits, crate::proofs::Course::stops))]
+#[tactic(auto, using(crate::proofs::Course::begins, crate::proofs::Course::stops, crate::proofs::Course::unended, crate::proofs::Course::ungiven, crate::proofs::Course::given))]
 pub fn read_lines(code: Window, file: &[u8], cells: &mut Cells) -> Result<(), Refusal>
     requires { (code.length ≤ 4096) × (cells.old ≡ blank_cells) }
     ensures { after_lines code result cells.new ≡ file_of code file.now }

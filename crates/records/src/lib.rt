@@ -19,7 +19,7 @@ mod file; // the lines, one by one
 
 // Fills the buffer with the image that the file names. Until the whole file is good and the buffer's length is the code
 // window's, the image is kept apart.
-#[tactic(auto, unfolding(crate::specs::Load::load_of))]
+#[tactic(auto, using(crate::proofs::GoodNames::good_given), unfolding(crate::specs::Load::load_of))]
 pub fn load_image(code: Window, file: &[u8], image: &mut [u8]) -> Result<(), Refusal>
     requires { code.length ≤ 4096 }
     ensures { after_load result image.new ≡ load_of code file.now image.old }

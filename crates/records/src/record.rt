@@ -32,5 +32,9 @@ pub fn formed(t: u8, s1: usize, bytes: &[u8]) -> bool
 pub fn sum(bytes: &[u8]) -> u8
     ensures { result ≡ sum bytes.now % 256 }
 {
-    bytes.iter().fold(0, |s: u8, b| s.wrapping_add(*b))
+    let mut s: u8 = 0;
+    for b in bytes {
+        s = s.wrapping_add(*b);
+    }
+    s
 }

@@ -1,18 +1,23 @@
--- `decode` meets its contract. The loop's invariant: the bytes so far stand in the buffer, before those of the rest.
+-- `decode` meets its contract: the bytes so far stand in the buffer, before those of the rest.
 -- Assumes nothing.
-use mathlib.Core.Path.{sym, ◌∙◌}
-use native.Mathlib.Omega.{arith}
-use Rattle.records.proofs.DecodePairs.{Pair}
-use Rattle.records.proofs.DecodeSoFar.{so_far_next}
+use Rattle.std.proofs.Common.{sym, ◌∙◌, arith, refl, length-drop}
+use Rattle.std.proofs.Math.Seq.{take_all}
+use Rattle.std.proofs.lemmas.List.{take-set}
+use Rattle.records.proofs.DecodeSoFar.{ended_here, so_far_next}
 use Rattle.records.proofs.decode.decode.Goals as goal
+
+pub returns-then-ends : goal.returns-then-ends
+returns-then-ends c =
+    let l = c.loop-n in (
+      rw (take-set l.buffer l.n _) (ended_here l.invariant (omega arith) (sym c.ends.ensures ∙ c.if-ends.true)),
+      omega arith,
+    )
 
 pub loop-n-preserved : goal.loop-n-preserved
 loop-n-preserved c =
-    let q : Pair c.args.s.now c.loop-n.at c.digit-high.result c.digit-low.result =
-    record {
-      unended = sym c.ends.ensures ∙ c.if-ends.false;
-      long = c.if-rest-lt2.false;
-      high_is = c.digit-high.ensures.0;
-      low_is = c.digit-low.ensures.0;
-    } in
-    so_far_next c.loop-n.invariant q c.if-high-low.false (omega arith)
+    let l = c.loop-n in
+    let e = sym c.ends.ensures ∙ c.if-ends.false in
+    let h = sym c.digit.ensures.value ∙ c.in_ok-digit.was in
+    let k = sym c.digit-in-loop-n.ensures.value ∙ c.in_ok-byte.was in
+    so_far_next l.invariant e c.in-len2-up.len_at_least h k (omega arith) refl
+    (take_all _ _ (omega (arith, length-drop 2 l.rest.now)))

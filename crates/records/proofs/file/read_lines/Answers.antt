@@ -1,11 +1,17 @@
--- `read_lines` meets its contract. The loop's invariant is `Reached`; the measure is how many bytes are left, of which
--- each line takes one or more.
+-- `read_lines` meets its contract: a line more is read, and fewer bytes are left.
 -- Assumes nothing.
-use mathlib.Core.Path.{sym}
+use Rattle.std.proofs.Common.{◌<◌, length, sym, rules, tests}
+use Rattle.records.proofs.Lines.{shorter}
 use Rattle.records.proofs.Course.{goes_on}
 use Rattle.records.proofs.file.read_lines.Goals as goal
 
-pub loop-at-preserved : goal.loop-at-preserved
-loop-at-preserved c =
-    let o = rw c.in-Next.is at (sym c.judge.ensures.0) in
-    goes_on c.loop-at.invariant c.loop-at-test.true c.line_length-n.ensures.0 _ _ o c.judge.ensures.1
+pub loop-rest-smaller : goal.loop-rest-smaller
+loop-rest-smaller c =
+    let some : 0 < length c.loop-rest.rest.now = search (rules, tests) in
+    rw c.split_at.ensures.back (shorter c.loop-rest.rest.now some c.line_length.ensures.0)
+
+pub loop-rest-preserved : goal.loop-rest-preserved
+loop-rest-preserved c =
+    let o = rw (c.in-Ok.is, c.split_at.ensures.front) at (sym c.judge.ensures) in
+    let some : 0 < length c.loop-rest.rest.now = search (rules, tests) in
+    rw c.split_at.ensures.back (goes_on c.loop-rest.invariant some c.line_length.ensures.0 o c.judge.array_long)
