@@ -1,7 +1,7 @@
 -- A run, by where it begins: refused for the memory's length, ended at home, or the loop that ends at home.
 -- Assumes nothing.
+use Rattle.std.specs.Prelude.{Some}
 use mathlib.Core.Path.{◌≡◌, refl, sym, ◌∙◌}
-use mathlib.Core.Bool.{false}
 use mathlib.Core.List.{List}
 use Prim.Native.Nat.{ℕ, zero, suc}
 use lib.Dec.{eqb}
@@ -17,11 +17,11 @@ use Rattle.stepper.proofs.SameRest.{same_turn}
 
 module _ (env : Environment) where
   until_home : (n b s : ℕ) (r : Registers) (m : List ℕ)
-      → until_from false env.home n b s r m ≡ run_from env n b s r m
+      → until_from (Some env.home) n b s r m ≡ run_from env n b s r m
   unfolding until_from run_from
   until_home zero b s r m = refl
   until_home (suc n) b s r m =
-      same_turn b (λ t q m'. until_from false env.home n b t q m') (λ t q m'. run_from env n b t q m') s r m
+      same_turn b (λ t q m'. until_from (Some env.home) n b t q m') (λ t q m'. run_from env n b t q m') s r m
       (λ q k a w. until_home n b _ q _) (eqb r.pc env.home)
 
   pub unfit : (r : Registers) (m : List ℕ) (b : ℕ) → (length m ≡ 65536 → ⊥)
@@ -35,8 +35,8 @@ module _ (env : Environment) where
   at_home r m b h z = simp (eq-eqb _ _ h, eq-eqb _ _ z)
 
   pub begins : (r : Registers) (m : List ℕ) (b : ℕ) → length m ≡ 65536 → (r.pc ≡ env.home → ⊥)
-      → run_of env r m b ≡ until_of false env.home r m b
+      → run_of env r m b ≡ until_of (Some env.home) r m b
   unfolding run_of
   begins r m b h n =
       simp (eq-eqb _ _ h)
-      (sym (until_home (suc b) b 0 r m) ∙ goes_on false env.home b b 0 r m (ne_eqb _ _ n))
+      (sym (until_home (suc b) b 0 r m) ∙ goes_on (Some env.home) b b 0 r m (ne_eqb _ _ n))

@@ -39,7 +39,7 @@ fn ran(a: Ended) -> Ran
     }
 }
 
-// One instruction: the loop ends wherever that leads, whatever home is.
+// One instruction: without a home the loop ends wherever that leads.
 #[tactic(auto, using(crate::proofs::ByFound::unfit, crate::proofs::OneTurn::one_turn))]
 pub fn step(r: Registers, mem: &mut [u8]) -> Stepped
     ensures { (answer_of result ≡ (step_of r mem.old).answer)
@@ -48,7 +48,7 @@ pub fn step(r: Registers, mem: &mut [u8]) -> Stepped
     let Some(memory) = mem.as_mut_array() else {
         return Err(refuse(21, 0));
     };
-    stepped(run_until(r, memory, 255, 0, true))
+    stepped(run_until(r, memory, 255, None))
 }
 
 // Instructions until the environment's home, a refusal, or one that would pass the budget.
@@ -67,5 +67,5 @@ pub fn run(r: Registers, mem: &mut [u8], env: Environment, budget: u32) -> Ran
     if r.pc == env.home {
         return Ran::Home(start);
     }
-    ran(run_until(r, memory, budget, env.home, false))
+    ran(run_until(r, memory, budget, Some(env.home)))
 }

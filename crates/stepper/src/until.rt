@@ -5,7 +5,7 @@ ghost use Rattle.std.specs.Prelude.{◌≡◌, ◌<◌, IfSome};
 ghost use Rattle.registers.specs.Word.{wrapping_add};
 ghost use Rattle.memory.specs.Memory.{byte_at};
 ghost use Rattle.opcodes.specs.inner.Lookup.{found_of};
-ghost use Rattle.stepper.specs.inner.Until.{ended_of, until_of};
+ghost use Rattle.stepper.specs.inner.Until.{ended_of, ends_loop, until_of};
 
 use crate::answer::Reached;
 use dispatch::{execute, waits};
@@ -39,12 +39,22 @@ fn find(mem: &Memory, pc: u16) -> Option<Found>
     found_of(byte_at(mem, pc), byte_at(mem, wrapping_add(pc, 1)))
 }
 
-// The next instruction, wherever it stands, and those after it until PC is `home`; that one alone where `once`. The
+// Whether PC ends the loop: home does, and where there is none every address.
+fn ends(home: Option<u16>, pc: u16) -> bool
+    ensures { result ≡ ends_loop home pc }
+{
+    match home {
+        Some(h) => pc == h,
+        None => true,
+    }
+}
+
+// The next instruction, wherever it stands, and those after it until PC is home; that one alone where there is none. The
 // lowest SP is kept beside the registers, which hold it only where they are handed on: in them it would cost the loop
 // more host instructions.
-pub fn run_until(r: Registers, mem: &mut Memory, budget: u32, home: u16, once: bool) -> Ended
-    ensures { (ended_of result ≡ (until_of once home r mem.old budget).answer)
-        × (mem.new ≡ (until_of once home r mem.old budget).memory) }
+pub fn run_until(r: Registers, mem: &mut Memory, budget: u32, home: Option<u16>) -> Ended
+    ensures { (ended_of result ≡ (until_of home r mem.old budget).answer)
+        × (mem.new ≡ (until_of home r mem.old budget).memory) }
 {
     let mut q = r;
     let mut lowest = r.lowest;
@@ -72,7 +82,7 @@ pub fn run_until(r: Registers, mem: &mut Memory, budget: u32, home: u16, once: b
         );
         lowest = smaller(q.sp, lowest);
         left -= k;
-        if once | (q.pc == home) {
+        if ends(home, q.pc) {
             return Ended::Arrived(reached(q.with_lowest(lowest), budget - left));
         }
     }

@@ -15,7 +15,7 @@ at : (r : Registers) (m : List ℕ) {o : Option Found} {x : Found} → length m 
 at r m h low f s = record { whole = h; low = low; found = sym f ∙ s }
 
 pub loop-place-init : goal.loop-place-init
-loop-place-init c = let z = c.args in begun z.once z.home z.budget z.r z.mem.now c.told-mem
+loop-place-init c = let z = c.args in begun z.home z.budget z.r z.mem.now c.told-mem
 
 pub returns-in_default : goal.returns-in_default
 returns-in_default c =
@@ -45,16 +45,16 @@ pub execute-q-requires-clause-k_value : goal.execute-q-requires-clause-k_value
 execute-q-requires-clause-k_value c =
     fit c.in-Some.field-0.place c.number_at-n.result c.mode_number_at.result c.number_at-n.ensures c.mode_number_at.ensures
 
-pub returns-then-once-q : goal.returns-then-once-q
-returns-then-once-q c =
+pub returns-then-ends : goal.returns-then-ends
+returns-then-ends c =
     let i = rw (← c.with_lowest-held.ensures) at c.loop-place.invariant in
     let here = at c.with_lowest-held.result c.loop-place.mem i.whole (omega arith) c.find.ensures.found c.in-Some.is in
     let step = executes here c.number_at-n.result c.number_at-n.ensures c.waits.ensures c.if-waits.false
     c.mode_number_at.result c.mode_number_at.ensures c.wrapping_add.ensures c.wrapping_add-in-loop-place.ensures
     c.with_pc.ensures c.execute-q.ensures (ap (λ (r : Registers). r.lowest) c.with_lowest-held.ensures)
     c.smaller-lowest.ensures in
-    rw (c.reached-then-once-q.ensures, c.with_lowest.ensures)
-    (told (finished i step c.if-left-k.false c.if-once-q.true))
+    rw (c.reached-then-ends.ensures, c.with_lowest.ensures)
+    (told (finished i step c.if-left-k.false (sym c.ends.ensures ∙ c.if-ends.true)))
 
 pub loop-place-smaller : goal.loop-place-smaller
 loop-place-smaller c =
@@ -71,4 +71,4 @@ loop-place-preserved c =
     c.mode_number_at.result c.mode_number_at.ensures c.wrapping_add.ensures c.wrapping_add-in-loop-place.ensures
     c.with_pc.ensures c.execute-q.ensures (ap (λ (r : Registers). r.lowest) c.with_lowest-held.ensures)
     c.smaller-lowest.ensures in
-    again i step c.if-left-k.false c.if-once-q.false c.execute-q.array_long
+    again i step c.if-left-k.false (sym c.ends.ensures ∙ c.if-ends.false) c.execute-q.array_long

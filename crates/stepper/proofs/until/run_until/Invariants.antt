@@ -7,7 +7,7 @@ use Rattle.stepper.proofs.LoopInvariant.{CameTo}
 use Rattle.stepper.proofs.until.run_until.Given as goal
 
 abbrev pub invariant-loop-place : goal.invariant-loop-place
-invariant-loop-place l = CameTo l.once l.home l.budget l.initial.q l.initial.mem l.left (with_lowest l.q l.lowest) l.mem
+invariant-loop-place l = CameTo l.home l.budget l.initial.q l.initial.mem l.left (with_lowest l.q l.lowest) l.mem
 
 abbrev pub decreases-loop-place : goal.decreases-loop-place
 decreases-loop-place l = l.left
