@@ -1,10 +1,8 @@
 -- The bytes that a line lists, put into memory one after another.
 -- Assumes nothing.
-use Rattle.std.proofs.Common.{◌≡◌, ℕ, zero, suc, ◌+◌, List, refl, ap, ◌∙◌, sym, arith}
-use Rattle.std.proofs.Common.{◌*◌}
+use Rattle.std.proofs.Common.{◌≡◌, ℕ, suc, ◌+◌, List}
 use Rattle.memory.specs.Memory.{applied, with_byte}
 use Rattle.vectors.specs.Hex.{hex_byte_in, hex_word_in}
-use Rattle.vectors.specs.Line.{listed_in, written_in}
 use Rattle.vectors.specs.Vector.{stores_in}
 
 -- the first of them, and then the others
@@ -16,7 +14,3 @@ first_store s m i j n k p q = rw (p, q)
 pub no_store : (s m : List ℕ) (i n : ℕ) → n ≡ 0 → applied (stores_in s i n) m ≡ m
 unfolding stores_in
 no_store s m i n p = rw p
-
--- W, read after the bytes that N counts
-pub same_written : (s : List ℕ) {n w : ℕ} → n ≡ listed_in s → w ≡ hex_byte_in s (63 + 7 * n) → w ≡ written_in s
-same_written s p q = q ∙ ap (λ (k : ℕ). hex_byte_in s (63 + 7 * k)) p
