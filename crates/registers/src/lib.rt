@@ -82,7 +82,8 @@ impl Registers {
     pub fn d(self) -> u16
         ensures { result ≡ accumulator_d (data_of self) }
     {
-        u16::from_be_bytes([self.a, self.b])
+        // by from_be_bytes a run takes a tenth more host instructions
+        (self.a as u16) * 256 + (self.b as u16)
     }
 
     pub fn with_a(self, a: u8, flags: u8) -> Registers
