@@ -39,7 +39,6 @@ pub fn enter(code: Window, address: usize, data: &[u8], cells: &mut Cells) -> bo
     true
 }
 
-#[tactic(auto, using(crate::proofs::AllGiven::next_cell))]
 pub fn all_given(cells: &[u16]) -> bool
     ensures { result ≡ all_given cells.now }
 {

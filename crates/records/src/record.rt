@@ -7,7 +7,7 @@ pub fn address_of(bytes: &[u8]) -> usize
     requires { 4 ≤ length bytes.now }
     ensures { (result ≡ address_of bytes.now) × (result < 65536) }
 {
-    usize::from(bytes[1]) * 256 + usize::from(bytes[2])
+    usize::from(u16::from_be_bytes([bytes[1], bytes[2]]))
 }
 
 // As many bytes as the count says, and as its type wants them, where s1 S1 lines come before it.

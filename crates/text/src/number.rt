@@ -35,10 +35,8 @@ pub fn hex2(n: u8) -> [u8; 2]
 pub fn hex4(n: u16) -> [u8; 4]
     ensures { result ≡ hex_of n }
 {
-    [
-        glyph((n / 4096) as u8),
-        glyph((n / 256 % 16) as u8),
-        glyph((n / 16 % 16) as u8),
-        glyph((n % 16) as u8),
-    ]
+    let [high, low] = n.to_be_bytes();
+    let [a, b] = hex2(high);
+    let [c, d] = hex2(low);
+    [a, b, c, d]
 }
