@@ -6,7 +6,8 @@ use native.Mathlib.Nat.{add-zero, zero-add, pow-succ', pow-le-pow_right, div-div
 use native.Mathlib.Numerals.{add-one}
 use native.Mathlib.Omega.{arith}
 use mathlib.Core.List.{List, [], ◌∷◌, ◌++◌, append_assoc, append-nil}
-use lib.ListN.{length, get_or, take, drop, length-append}
+use lib.ListN.{length, get_or, take, drop, length-append, length-drop}
+use lib.Seq.{take_all, drop-cons}
 use Rattle.std.specs.Int.{byte_at, bytes_high_first}
 use Rattle.commands.specs.Number.{number_from, number, digits, AllBytes}
 use Rattle.commands.specs.Every.{none, more}
@@ -35,10 +36,12 @@ last_high_first : (n w v : ℕ) → drop n (bytes_high_first (n + w) v) ≡ byte
 last_high_first zero w v = rw zero-add
 last_high_first (suc n) w v = rw (suc-add n w) (last_high_first n w v)
 
-pub last_digits : (w v : ℕ) → w ≤ 8 → drop (8 - w) (bytes_high_first 8 v) ≡ digits w v
+pub last_digits : (w v : ℕ) → w ≤ 8 → take (8 - (8 - w)) (drop (8 - w) (bytes_high_first 8 v)) ≡ digits w v
 last_digits w v h =
+    let s = drop (8 - w) (bytes_high_first 8 v) in
     let e : 8 - w + w ≡ 8 = omega arith in
-    rw e at (last_high_first (8 - w) w v) ∙ digits_high_first w v
+    take_all (8 - (8 - w)) s (simp length-drop (omega arith))
+    ∙ (rw e at (last_high_first (8 - w) w v) ∙ digits_high_first w v)
 
 -- reading goes on where it stopped
 pub append : (v : ℕ) (s t : List ℕ) → number_from v (s ++ t) ≡ number_from (number_from v s) t
@@ -89,10 +92,16 @@ pub all_bytes : (s : List ℕ) → ((i : ℕ) → get_or s i 0 < 256) → AllByt
 all_bytes [] h = none
 all_bytes (b ∷ s) h = more (h 0) (all_bytes s (λ i. h (suc i)))
 
--- eight bytes at most fit the code's numbers
-pub eight_fit : (v b w n : ℕ) → v < 256 ^ w → b < 256 → w < n → n ≤ 8 → (v * 256 + b < 256 ^ (w + 1))
-    × (v * 256 + b < 18446744073709551616)
-eight_fit v b w n small byte room most =
-    let here : v * 256 + b < 256 ^ (w + 1) = rw (add-one, pow-succ') (omega arith) in
-    let high : 256 ^ (w + 1) ≤ 256 ^ 8 = pow-le-pow_right {n = 256} (omega arith) {i = w + 1} {j = 8} (omega arith) in
-    (here, omega arith)
+-- the number of the first i bytes is v
+pub record ReadSoFar (s : List ℕ) (i v : ℕ) : Type 0 where
+  pub read : number_from v (drop i s) ≡ number s
+  pub small : v < 256 ^ i
+
+-- one byte more, where eight at most fit the code's numbers
+pub read_next : {s : List ℕ} {i v : ℕ} → ReadSoFar s i v → i < length s → length s ≤ 8 → get_or s i 0 < 256 →
+    ReadSoFar s (i + 1) (v * 256 + get_or s i 0) × (v * 256 + get_or s i 0 < 18446744073709551616)
+read_next {s} {i} {v} r here most byte =
+    let small : v * 256 + get_or s i 0 < 256 ^ (i + 1) =
+    let f = r.small in rw (add-one, pow-succ') (omega arith) in
+    let high : 256 ^ (i + 1) ≤ 256 ^ 8 = pow-le-pow_right {n = 256} (omega arith) {i = i + 1} {j = 8} (omega arith) in
+    (record { read = rw add-one (rw (drop-cons s i 0 here) at r.read); small = small }, omega arith)

@@ -167,7 +167,8 @@ narrow_at (more n ns) zero = n
 narrow_at (more n ns) (suc i) = narrow_at ns i
 
 bounded_by : (w v : ℕ) → w ≤ 8 → v < 256 ^ w → v ≤ 0xffffffffffffffff
-bounded_by w v h l = let m : 256 ^ w ≤ 256 ^ 8 = pow-le-pow_right {n = 256} (omega arith) {i = w} {j = 8} h in omega arith
+bounded_by w v h l =
+    let m : 256 ^ w ≤ 256 ^ 8 = pow-le-pow_right {n = 256} (omega arith) {i = w} {j = 8} h in omega arith
 
 bounded : (r : CodeRow) (v : List ℕ) → Narrow r.operands → FitsCode r v → Bounded 4 v
 bounded r v n f zero h = bounded_by (width_at r 0) _ (narrow_at n 0) f.0

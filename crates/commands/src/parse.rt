@@ -32,16 +32,15 @@ fn operands_in(row: TableRow, s: &[u8]) -> Operands
 pub fn parse(s: &[u8]) -> Result<Command, ParseError>
     ensures { result ≡ parse_of s.now }
 {
-    if s.len() == 0 {
+    let [b, left @ ..] = s else {
         return Err(ParseError::Cut);
-    }
-    let b = s[0];
-    if COMMANDS <= b {
+    };
+    if COMMANDS <= *b {
         return Err(ParseError::Unknown);
     }
-    let row = row_of(b);
-    if s.len() - 1 < size(row) {
+    let row = row_of(*b);
+    if left.len() < size(row) {
         return Err(ParseError::Cut);
     }
-    Ok(command_with(b, operands_in(row, &s[1..])))
+    Ok(command_with(*b, operands_in(row, left)))
 }

@@ -22,7 +22,8 @@ use Rattle.ticket.proofs.Stage.{by_admission}
 use Rattle.ticket.proofs.ReadWritten.{refused_stays}
 use Rattle.std.specs.Prelude.{Result, Ok, Err}
 
-pub all_append : (a : Result Progress Refusal) (cs ds : List Command) → all_then a (cs ++ ds) ≡ all_then (all_then a cs) ds
+pub all_append : (a : Result Progress Refusal) (cs ds : List Command) → all_then a (cs ++ ds)
+    ≡ all_then (all_then a cs) ds
 all_append a [] ds = refl
 all_append a (c ∷ cs) ds = all_append (then_of a c) cs ds
 

@@ -78,7 +78,8 @@ module _ (from n : ℕ) where
       by_cause c f v true = rest c f
       by_cause c f v false = rw (moved_at v)
 
-      by_parsed : (d : Result Command ParseError) → parse_of s ≡ d → read_onward (parsed_as d (later p n k b)) ms s (read_from m)
+      by_parsed : (d : Result Command ParseError) → parse_of s ≡ d
+          → read_onward (parsed_as d (later p n k b)) ms s (read_from m)
           ≡ moved from n (read_onward (parsed_as d p) ms s (read_from l))
       unfolding admit_of
       by_parsed (Err Unknown) f = rw (moved_at 1)

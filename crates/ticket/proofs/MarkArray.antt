@@ -1,17 +1,17 @@
 -- The array of marks while a ticket is read: the marks so far in file order, blank ones after them.
 -- Assumes nothing.
-use Prim.Native.Nat.{ℕ, suc, ◌+◌, ◌-◌, ◌≤◌, ◌<◌}
+use Prim.Native.Nat.{ℕ, suc, ◌-◌, ◌≤◌, ◌<◌}
 use native.Mathlib.Omega.{arith}
-use mathlib.Core.Path.{◌≡◌}
+use mathlib.Core.Path.{◌≡◌, refl}
 use mathlib.Core.List.{List, [], ◌∷◌, ◌++◌}
-use lib.ListN.{length, get_or, set, replicate, length-append}
-use lib.Seq.{append_snoc, set-append_seam, set-get_or}
+use lib.ListN.{length, set, replicate, length-append}
+use lib.Seq.{append_snoc, set-append_seam}
 use Rattle.commands.specs.declared.command.Command.{Command}
 use Rattle.commands.specs.declared.progress.Progress.{Progress}
 use Rattle.commands.specs.Progress.{after_of}
+use Rattle.commands.specs.declared.command.Claim.{Claim}
 use Rattle.ticket.specs.declared.fields.Mark.{Mark}
 use Rattle.ticket.specs.Fields.{blank_mark, marks_with, in_file_order}
-use Rattle.ticket.specs.inner.Entered.{entered_of}
 use Rattle.ticket.proofs.SoFar.{Consistent, length_ordered}
 
 -- some marks, filled up to n
@@ -26,19 +26,26 @@ module _ (n : ℕ) (ms : List Mark) (m : Mark) where
       let more : n - length ms ≡ suc (n - length (ms ++ (m ∷ []))) = omega (arith, length-append ms (m ∷ [])) in
       rw (more, append_snoc ms m) (set-append_seam ms blank_mark (replicate (n - length (ms ++ (m ∷ []))) blank_mark) m)
 
--- the array after a command, of which a mark's alone changes an entry: the latest mark stands at the count less 1
-module _ (n : ℕ) (d : Mark) (p : Progress) where
-  abbrev Entered : List Mark → Command → Type 0
-  Entered ms c =
-      let i = (after_of p c).count - 1 in
-      let old = filled n (in_file_order ms) in
-      set old i (entered_of (get_or old i d) c) ≡ filled n (in_file_order (marks_with ms c))
+-- the array after a command: a mark's comes after the others, which are n
+abbrev pub entered_in : List Mark → ℕ → Command → List Mark
+entered_in ms n (Command.Header c) = ms
+entered_in ms n (Command.Mark a k) = set ms n (record { address = a; claim = k })
+entered_in ms n (Command.Name a t) = ms
+entered_in ms n Command.End = ms
 
-  pub entered : (ms : List Mark) → Consistent p ms → (c : Command) → (after_of p c).count ≤ n → Entered ms c
-  unfolding after_of
-  entered ms k (Command.Header c) l = set-get_or (filled n (in_file_order ms)) _ d
-  entered ms k (Command.Mark a x) l =
-      let i : p.count + 1 - 1 ≡ length (in_file_order ms) = omega (arith, length_ordered ms) in
-      rw i (set_next n (in_file_order ms) _ (omega (arith, length_ordered ms)))
-  entered ms k (Command.Name a t) l = set-get_or (filled n (in_file_order ms)) _ d
-  entered ms k Command.End l = set-get_or (filled n (in_file_order ms)) _ d
+pub no_mark_entered : (ms : List Mark) (n : ℕ) (c : Command)
+    → ((a : ℕ) (k : Claim) → c ≡ Command.Mark a k → ⊥) → ms ≡ entered_in ms n c
+no_mark_entered ms n (Command.Header c) none = refl
+no_mark_entered ms n (Command.Mark a k) none = absurd (none a k refl)
+no_mark_entered ms n (Command.Name a t) none = refl
+no_mark_entered ms n Command.End none = refl
+
+pub entered : (n : ℕ) (p : Progress) (ms : List Mark) → Consistent p ms → (c : Command) → (after_of p c).count ≤ n
+    → entered_in (filled n (in_file_order ms)) p.count c ≡ filled n (in_file_order (marks_with ms c))
+unfolding after_of
+entered n p ms k (Command.Header c) l = refl
+entered n p ms k (Command.Mark a x) l =
+    let i : p.count ≡ length (in_file_order ms) = omega (arith, length_ordered ms) in
+    rw i (set_next n (in_file_order ms) _ (omega (arith, length_ordered ms)))
+entered n p ms k (Command.Name a t) l = refl
+entered n p ms k Command.End l = refl

@@ -24,7 +24,8 @@ pub record Onward (f : Fields) (a : Result Progress Refusal) (left : List Comman
   pub fit : FitSoFar a left → FitSoFar (Ok initial_progress) (commands_of f)
 
 -- after the header's commands
-pub from_header : (t : Ticket) {a : Result Progress Refusal} → a ≡ all_then (Ok initial_progress) (header_commands t.header)
+pub from_header : (t : Ticket) {a : Result Progress Refusal}
+    → a ≡ all_then (Ok initial_progress) (header_commands t.header)
     → AllFit (header_commands t.header) → Onward (fields_of t) a (marks_left t.marks t.count 0)
 unfolding check_of
 from_header t {a} e fits =

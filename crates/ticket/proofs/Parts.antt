@@ -29,7 +29,8 @@ pub put_left : (out new : List ℕ) (at next : ℕ) (c : Command) (cs : List Com
     → spliced new next (encode_all cs) ≡ spliced out at (encode_all (c ∷ cs))
 put_left out new at next c cs room p =
     let q : Placed out at (encode_of c) new next = record { bytes = p.0; end = rw length_encode p.1 } in
-    (placed_next {m = next + length (encode_all cs)} q (omega (arith, put_end at next c cs p.1)) (encode_all cs) (refl, refl)).bytes
+    let left = encode_all cs in
+    (placed_next {m = next + length left} q (omega (arith, put_end at next c cs p.1)) left (refl, refl)).bytes
 
 -- the commands from one on
 abbrev pub any : Command

@@ -7,7 +7,7 @@ use native.Mathlib.Omega.{arith}
 use mathlib.Core.Path.{◌≡◌, refl, ◌∙◌}
 use mathlib.Core.Bool.{true, false}
 use mathlib.Core.List.{List, []}
-use lib.ListN.{length, get_or, set, drop, replicate, length-drop, drop_of_length-le}
+use lib.ListN.{length, drop, replicate, length-drop, drop_of_length-le}
 use lib.Seq.{drop-drop, drop-cons}
 use Rattle.commands.specs.declared.command.Command.{Command}
 use Rattle.answers.specs.declared.Refusal.{Refusal}
@@ -17,11 +17,11 @@ use Rattle.commands.specs.Cause.{command_cause_of}
 use Rattle.commands.specs.Progress.{initial_progress, after_of, ended}
 use Rattle.commands.proofs.Coding.{parse_room, width_positive, after_at}
 use Rattle.commands.proofs.Sound.{bounds}
+use Rattle.commands.specs.declared.command.Claim.{Claim}
 use Rattle.ticket.specs.declared.fields.Mark.{Mark}
 use Rattle.ticket.specs.Fields.{refused, blank_mark, marks_with, in_file_order, ticket_of, reading_of}
-use Rattle.ticket.specs.inner.Entered.{entered_of}
 use Rattle.ticket.specs.Read.{refusal, next_command_of, end_of, read_onward, if_ended, read_from, read_of}
-use Rattle.ticket.proofs.MarkArray.{filled, entered}
+use Rattle.ticket.proofs.MarkArray.{filled, entered_in, entered}
 use Rattle.ticket.proofs.SoFar.{Consistent, consistent_start, consistent_next, length_ordered}
 use Rattle.ticket.proofs.Turned.{turned}
 use Rattle.std.specs.Prelude.{Ok, Err}
@@ -79,10 +79,9 @@ module _ (s : List ℕ) (array : List Mark) (p : Progress) (h : ReadState s arra
             width_positive c,
           )
 
-      reached_after : (d : Mark) → command_cause_of p c ≡ 0 → next_command_of (drop p.at s) p
-          ≡ Ok ((after_of p c), c) → ReadState s (set array ((after_of p c).count - 1)
-          (entered_of (get_or array ((after_of p c).count - 1) d) c)) (after_of p c)
-      reached_after d free e =
+      reached_after : command_cause_of p c ≡ 0 → next_command_of (drop p.at s) p ≡ Ok (after_of p c, c)
+          → ReadState s (entered_in array p.count c) (after_of p c)
+      reached_after free e =
           let next = consistent_next p h.marks h.kept c free in
           let on : drop (width_of c) (drop p.at s) ≡ drop (after_of p c).at s =
           rw (after_at p c) (drop-drop (width_of c) p.at s) in
@@ -94,22 +93,28 @@ module _ (s : List ℕ) (array : List Mark) (p : Progress) (h : ReadState s arra
             enough = omega (arith, moved);
             rest = rw (e, on) at read_on;
             held =
-                rw h.held (entered 4096 d p h.marks h.kept c (bounds next.sound).0);
+                rw h.held (entered 4096 p h.marks h.kept c (bounds next.sound).0);
           }
 
     module _ (q : Progress) (c : Command) (e : next_command_of (drop p.at s) p ≡ Ok (q, c)) where
-      pub reached_next : (d : Mark)
-          → ReadState s (set array (q.count - 1) (entered_of (get_or array (q.count - 1) d) c))
-          q
-      reached_next d =
+      pub reached_next : ReadState s (entered_in array p.count c) q
+      reached_next =
           let t = turned (drop p.at s) p q c e in
-          rw t.next (reached_after c t.found d t.free (rw t.next at e))
+          rw t.next (reached_after c t.found t.free (rw t.next at e))
 
       pub next_bounds : (p.at < q.at) × (q.at ≤ length s) × (q.count ≤ 4096)
       next_bounds =
           let t = turned (drop p.at s) p q c e in
-          let n = reached_next blank_mark in
+          let n = reached_next in
           (rw t.next (moved c t.found).0, n.inside, (bounds n.kept.sound).0)
+
+      -- a mark has room in the array
+      pub mark_room : (a : ℕ) (k : Claim) → c ≡ Command.Mark a k → p.count < 4096
+      unfolding after_of
+      mark_room a k m =
+          let t = turned (drop p.at s) p q c e in
+          let more : q.count ≡ p.count + 1 = rw (t.next, m) refl in
+          omega (arith, next_bounds)
 
   -- after the end
   module _ (end : ended p ≡ true) where

@@ -95,13 +95,15 @@ read_all (suc n) p ms (before {c} {cs} d) fits e l =
     (kept_of (header_after p.header c) (marks_with ms c) cs)) (λ r. rw refused_stays)
     (λ f. rw (← header_of_after p c) (read_all n _ _ d f (stage_after p c) (shorter c _ n l))) fits.1
 
-pub read_stated : (f : Fields) {cs : List Command} → States f cs → FitSoFar (Ok initial_progress) cs → read_of (encode_all cs)
+pub read_stated : (f : Fields) {cs : List Command} → States f cs → FitSoFar (Ok initial_progress) cs
+    → read_of (encode_all cs)
     ≡ answered (all_then (Ok initial_progress) cs) f
 unfolding read_of
 read_stated f {cs} S fits =
     read_all _ initial_progress [] (closed S) fits refl (omega arith)
     ∙ ap (answered (all_then (Ok initial_progress) cs)) (kept f S)
 
-pub read_written : (f : Fields) → FitSoFar (Ok initial_progress) (commands_of f) → read_of (bytes_of f) ≡ answered (check_of f) f
+pub read_written : (f : Fields) → FitSoFar (Ok initial_progress) (commands_of f)
+    → read_of (bytes_of f) ≡ answered (check_of f) f
 unfolding bytes_of check_of
 read_written f fits = read_stated f (own f) fits

@@ -56,7 +56,8 @@ module _ (p : Progress) (c : Command) (free : command_cause_of p c ≡ 0) where
       ≡ read_from n (after_of p c) (marks_with ms c) s
   unfolding admit_of
   read_one n ms s fit =
-      step n p ms c s not_ended fit (λ a. Unit {0}) (onward (read_from n (after_of p c) (marks_with ms c) s)) (λ r. refl) (λ x. refl) tt
+      step n p ms c s not_ended fit (λ a. Unit {0}) (onward (read_from n (after_of p c) (marks_with ms c) s))
+      (λ r. refl) (λ x. refl) tt
       ∙ rw (eq-eqb _ _ free)
 
 -- the turns that are then left are enough

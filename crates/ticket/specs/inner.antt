@@ -1,2 +1,1 @@
-pub mod Entered
 pub mod FitSoFar

@@ -10,10 +10,11 @@ ghost use Rattle.ticket.specs.Fields.{fields_of, reading_of};
 ghost use Rattle.ticket.specs.RoundTrip.{answered, SameBytes};
 ghost use Rattle.ticket.specs.Names.{NamesIgnored};
 
-use crate::fields::{Ticket, blank};
-use crate::reader::{entered, latest_index, next_command};
+use crate::fields::{Mark, Ticket, blank};
+use crate::reader::next_command;
 use crate::writer::{check, put};
 use answers::{Refusal, refuse};
+use commands::command::Command;
 use commands::progress::{ended, initial};
 
 pub mod fields; // the ticket and its marks
@@ -33,8 +34,9 @@ pub fn read(bytes: &[u8]) -> Result<Ticket, Refusal>
     let mut p = initial();
     while !ended(p) {
         let (q, c) = next_command(bytes, p)?;
-        let i = latest_index(q.count);
-        marks[i] = entered(marks[i], c);
+        if let Command::Mark(address, claim) = c {
+            marks[p.count as usize] = Mark { address, claim };
+        }
         p = q;
     }
     if (p.at as usize) < bytes.len() {

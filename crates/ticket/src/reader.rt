@@ -2,10 +2,8 @@
 // always sound.
 ghost use Rattle.std.specs.Prelude.{◌≡◌, ◌-◌, ◌≤◌, length, drop};
 ghost use Rattle.commands.specs.inner.Sound.{Sound};
-ghost use Rattle.ticket.specs.inner.Entered.{entered_of};
 ghost use Rattle.ticket.specs.Read.{next_command_of};
 
-use crate::fields::Mark;
 use answers::{Refusal, refuse};
 use commands::admit::admit;
 use commands::command::Command;
@@ -22,22 +20,5 @@ pub fn next_command(bytes: &[u8], p: Progress) -> Result<(Progress, Command), Re
         Err(ParseError::Unknown) => Err(refuse(1, p.at)),
         Err(ParseError::Cut) => Err(refuse(2, p.at)),
         Ok(c) => Ok((admit(p, c)?, c)),
-    }
-}
-
-// Where the latest of some marks stands.
-pub fn latest_index(count: u16) -> usize
-    ensures { result ≡ count - 1 }
-{
-    count.saturating_sub(1) as usize
-}
-
-// The latest mark after a command: a mark's own, else the same. A name is dropped.
-pub fn entered(m: Mark, c: Command) -> Mark
-    ensures { result ≡ entered_of m c }
-{
-    match c {
-        Command::Mark(address, claim) => Mark { address, claim },
-        Command::Header(_) | Command::Name(_, _) | Command::End => m,
     }
 }

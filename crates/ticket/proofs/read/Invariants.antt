@@ -5,8 +5,8 @@ use lib.ListN.{length}
 use Rattle.ticket.proofs.ReadLoop.{ReadState}
 use Rattle.ticket.proofs.read.Given as goal
 
-abbrev pub invariant-loop-p : goal.invariant-loop-p
-invariant-loop-p l = ReadState l.bytes l.marks l.p
+abbrev pub invariant-loop-marks : goal.invariant-loop-marks
+invariant-loop-marks l = ReadState l.bytes l.marks l.p
 
-abbrev pub decreases-loop-p : goal.decreases-loop-p
-decreases-loop-p l = length l.bytes - l.p.at
+abbrev pub decreases-loop-marks : goal.decreases-loop-marks
+decreases-loop-marks l = length l.bytes - l.p.at

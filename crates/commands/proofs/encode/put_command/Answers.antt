@@ -44,8 +44,8 @@ module _ (c : Command) (b : ℕ) (is_byte : b ≡ command_byte_of c) (row : Tabl
   begun out at vs room e paired =
       let n = length_joined_code row.operands vs paired in
       let p = placed_byte out at b (omega (arith, sized)) in
-      let q =
-      placed_next {m = at + 1 + length (joined_code row.operands vs)} p (omega (arith, sized)) (joined_code row.operands vs) (refl, refl) in
+      let left = joined_code row.operands vs in
+      let q = placed_next {m = at + 1 + length left} p (omega (arith, sized)) left (refl, refl) in
       q.bytes ∙ rw (row_joined (command_byte_of c) row is_row (operands_of c) (said c).as_many vs e, is_byte) refl
 
 -- a number in place of as many bytes, and then what is left
@@ -60,7 +60,9 @@ step out new at k o v os vs e room paired f =
     let n = length_joined_code os vs paired in
     let p : Placed out at (digits o.width v) (spliced out at (digits o.width v)) (at + o.width) =
     record { bytes = refl; end = rw length_digits refl } in
-    rw (f, put out at o.width v k e) (placed_next {m = at + o.width + length (joined_code os vs)} p (omega arith) (joined_code os vs) (refl, refl)).bytes
+    let left = joined_code os vs in
+    rw (f, put out at o.width v k e)
+    (placed_next {m = at + o.width + length left} p (omega arith) left (refl, refl)).bytes
 
 none_left : (os : List TableOperand) (vs : List ℕ) → length os ≡ 0 → (joined_code os vs ≡ []) × (code_size os ≡ 0)
 none_left [] vs e = (refl, refl)
@@ -79,7 +81,9 @@ loop-v-init c =
     let four = row_four (command_byte_of c.args.c) r.result is_row in
     let paired : length v.result ≡ length r.result.operands = rw (v.ensures.0, four) refl in
     rw (c.into_iter-v-iterator.ensures.into_iter_gives, z.first, c.iter.ensures.rest, z.second.0) record {
-      whole = begun c.args.c b.result b.ensures r.result r.ensures c.args.out.now c.args.at v.result c.requires v.ensures.0 paired;
+      whole =
+          begun c.args.c b.result b.ensures r.result r.ensures c.args.out.now c.args.at v.result c.requires
+          v.ensures.0 paired;
       end = omega (arith, sized _ _ b.ensures _ r.ensures);
       paired = paired;
       narrow = row_narrow (command_byte_of c.args.c) r.result is_row;
@@ -104,9 +108,14 @@ loop-v-preserved c =
     let e = rw s.1 at i.end in
     let sum = sum_by-cons (λ (x : TableOperand). x.width) o t.b.rest.now in
     let room : l.next + (o.width + code_size t.b.rest.now) ≤ length l.out = omega (arith, length-set {A = ℕ}) in
-    let n : length (take (l.next + o.width - l.next) (drop l.next l.out)) ≡ o.width = simp (length-take, length-drop) (omega arith) in
+    let n : length (take (l.next + o.width - l.next) (drop l.next l.out)) ≡ o.width =
+    simp (length-take, length-drop) (omega arith) in
+    let bytes = rw n at c.put_number.ensures in
     record {
-      whole = step l.out c.put_number.new.out l.next _ o c.in-Some.v.now t.b.rest.now t.a.rest.now (omega arith) room (omega arith) (rw n at c.put_number.ensures) ∙ rw (s.0, s.1) at i.whole;
+      whole =
+          step l.out c.put_number.new.out l.next _ o c.in-Some.v.now t.b.rest.now t.a.rest.now (omega arith) room
+          (omega arith) bytes
+          ∙ rw (s.0, s.1) at i.whole;
       end = omega arith;
       paired = omega arith;
       narrow = (first (rw s.1 at i.narrow)).1;

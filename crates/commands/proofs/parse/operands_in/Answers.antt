@@ -27,7 +27,13 @@ set_next vs i x s h = rw (add-one, take-suc-set, append_assoc)
 
 pub loop-i-init : goal.loop-i-init
 loop-i-init c =
-    record { read = refl; four = refl; narrow = c.requires.0; enough = c.requires.1; fits = λ k h. absurd (omega arith) }
+    record {
+      read = refl;
+      four = refl;
+      narrow = c.requires.0;
+      enough = c.requires.1;
+      fits = λ k h. absurd (omega arith);
+    }
 
 pub split_at-requires : goal.split_at-requires
 split_at-requires c =

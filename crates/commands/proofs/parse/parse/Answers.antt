@@ -22,6 +22,10 @@ nothing_left : (s : List ℕ) → length s ≡ 0 → Err Cut ≡ parse_of s
 unfolding parse_of
 nothing_left s e = ap parse_of (take_all 0 s (omega arith))
 
+-- the part after the first byte
+rest : (s : List ℕ) → take (length s - 1) (drop 1 s) ≡ drop 1 s
+rest s = take_all (length s - 1) (drop 1 s) (omega (arith, length-drop 1 s))
+
 -- a byte is left
 module _ (s : List ℕ) (left : 0 < length s) where
   abbrev byte : ℕ
@@ -62,15 +66,17 @@ module _ (s : List ℕ) (left : 0 < length s) where
           made,
         ))
 
-pub returns-then-s-eq0 : goal.returns-then-s-eq0
-returns-then-s-eq0 c = nothing_left c.args.s.now (omega arith)
+pub returns-in_default : goal.returns-in_default
+returns-in_default c = nothing_left c.args.s.now (omega arith)
 
 pub returns-then-b-ge-COMMANDS : goal.returns-then-b-ge-COMMANDS
 returns-then-b-ge-COMMANDS c = unknown c.args.s.now (omega arith) (omega arith)
 
-pub returns-then-s-size : goal.returns-then-s-size
-returns-then-s-size c =
-    cut c.args.s.now (omega arith) (omega arith) c.row_of-row.result c.row_of-row.ensures (omega arith)
+pub returns-then-left-size : goal.returns-then-left-size
+returns-then-left-size c =
+    let s = c.args.s.now in
+    let part = rw (rest s) at c.if-left-size.true in
+    cut s (omega arith) (omega arith) c.row_of-row.result c.row_of-row.ensures (omega (arith, length-drop 1 s))
 
 pub size-requires : goal.size-requires
 size-requires c = row_small _ _ c.row_of-row.ensures
@@ -78,12 +84,12 @@ size-requires c = row_small _ _ c.row_of-row.ensures
 pub operands_in-requires : goal.operands_in-requires
 operands_in-requires c =
     let e = c.row_of-row.ensures in
-    (row_narrow _ _ e, omega (arith, length-drop {A = ℕ}))
+    let part = rw (rest c.args.s.now) at c.if-left-size.false in
+    (row_narrow _ _ e, rw (rest c.args.s.now) (omega arith))
 
 pub returns : goal.returns
 returns c =
     let s = c.args.s.now in
-    let part : take (length s - 1) (drop 1 s) ≡ drop 1 s =
-    take_all (length s - 1) (drop 1 s) (omega (arith, length-drop 1 s)) in
-    found s (omega arith) (omega arith) c.row_of-row.result c.row_of-row.ensures (omega arith)
-    c.operands_in.result (rw part at c.operands_in.ensures.0) _ c.command_with.ensures
+    let part = rw (rest s) at c.if-left-size.false in
+    found s (omega arith) (omega arith) c.row_of-row.result c.row_of-row.ensures (omega (arith, length-drop 1 s))
+    c.operands_in.result (rw (rest s) at c.operands_in.ensures.0) _ c.command_with.ensures

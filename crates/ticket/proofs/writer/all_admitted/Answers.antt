@@ -26,7 +26,10 @@ loop-c-preserved c =
     let l = c.loop-c in
     let e = c.in_ok-p.ensures in
     let s = rw (next_of c.args.cs.now l.c-index c.loop-c-test.true) at l.invariant.same in
-    record { same = then_one l.p _ (drop (l.c-index + 1) c.args.cs.now) s e; sound = sound_admit _ _ _ l.invariant.sound (sym e) }
+    record {
+      same = then_one l.p _ (drop (l.c-index + 1) c.args.cs.now) s e;
+      sound = sound_admit _ _ _ l.invariant.sound (sym e);
+    }
 
 pub returns : goal.returns
 returns c =

@@ -17,13 +17,16 @@ use Rattle.ticket.proofs.Left.{marks_left, whole, next_mark, no_mark}
 use Rattle.ticket.proofs.Parts.{encode_append, put_end, put_left, put_none}
 use Rattle.ticket.proofs.writer.put.Goals as goal
 
-parts : (t : Ticket) → bytes_of (fields_of t) ≡ encode_all (header_commands t.header) ++ encode_all (marks_left t.marks t.count 0)
+parts : (t : Ticket) → bytes_of (fields_of t)
+    ≡ encode_all (header_commands t.header) ++ encode_all (marks_left t.marks t.count 0)
 unfolding bytes_of
 parts t = ap encode_all (whole t) ∙ encode_append (header_commands t.header) (marks_left t.marks t.count 0)
 
 size : (t : Ticket) → length (bytes_of (fields_of t))
     ≡ length (encode_all (header_commands t.header)) + length (encode_all (marks_left t.marks t.count 0))
-size t = ap length (parts t) ∙ length-append (encode_all (header_commands t.header)) (encode_all (marks_left t.marks t.count 0))
+size t =
+    ap length (parts t)
+    ∙ length-append (encode_all (header_commands t.header)) (encode_all (marks_left t.marks t.count 0))
 
 pub put_all-at-requires : goal.put_all-at-requires
 put_all-at-requires c = rw c.header_commands.ensures.0 (omega (arith, size c.args.t.now))
@@ -53,10 +56,12 @@ loop-i-preserved c =
     let put = rw command at c.put_command-at.ensures in
     let head = rw c.header_commands.ensures.0 at c.put_all-at.ensures.1 in
     let e = rw n at l.invariant.end in
-    let w = put_left l.out c.put_command-at.new.out l.at c.put_command-at.result k rest (omega (arith, e, head, size t)) put in
+    let out = c.put_command-at.new.out in
+    let next = c.put_command-at.result in
     record {
-      whole = w ∙ (rw n at l.invariant.whole);
-      end = put_end l.at c.put_command-at.result k rest put.1 ∙ e;
+      whole =
+          put_left l.out out l.at next k rest (omega (arith, e, head, size t)) put ∙ (rw n at l.invariant.whole);
+      end = put_end l.at next k rest put.1 ∙ e;
     }
 
 pub put_command-requires : goal.put_command-requires
@@ -79,8 +84,10 @@ returns c =
     let marks = encode_all (marks_left t.marks t.count 0) in
     let header = encode_all (header_commands t.header) in
     let last = c.put_command in
-    let put = put_left l.out last.new.out l.at last.result Command.End [] (omega (arith, e, first.1, size t)) last.ensures in
+    let room = size t in
+    let put =
+    put_left l.out last.new.out l.at last.result Command.End [] (omega (arith, e, first.1, room)) last.ensures in
     let p : Placed c.args.out.now 0 header c.put_all-at.new.out c.put_all-at.result =
     record { bytes = first.0; end = first.1 } in
-    let q = placed_next {m = c.put_all-at.result + length marks} p (omega (arith, first.1, size t)) marks (refl, refl) in
+    let q = placed_next {m = c.put_all-at.result + length marks} p (omega (arith, first.1, room)) marks (refl, refl) in
     put_none last.new.out last.result ∙ put ∙ w ∙ q.bytes ∙ ap (spliced c.args.out.now 0) (sym (parts t))
