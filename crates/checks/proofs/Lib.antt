@@ -1,7 +1,6 @@
 pub mod Tests
 pub mod ClaimAt
 pub mod EachMark
-pub mod Held
 pub mod MarkCause
 pub mod WholeCause
 pub mod VerdictByMarks

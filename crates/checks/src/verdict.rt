@@ -1,6 +1,6 @@
 // The checks of a ticket that was read: of the image, of each mark in rising address, of the whole.
 ghost use Rattle.std.specs.Prelude.{◌≡◌, ◌≤◌};
-ghost use Rattle.ticket.specs.Fields.{fields_of};
+ghost use Rattle.ticket.specs.Fields.{listed, fields_of};
 ghost use Rattle.ticket.specs.Rules.{Readable, Rising};
 ghost use Rattle.rules.specs.Checks.{verdict_on};
 ghost use Rattle.checks.specs.inner.MarkCause.{CauseIs};
@@ -40,9 +40,19 @@ fn verdict_by(h: Header, marks: &[Mark], image: &[u8]) -> Verdict
     whole(h, claim_at(marks, h.entry))
 }
 
+// The marks that an array begins with.
+#[tactic(auto, using(ticket::proofs::Listed::listed_take))]
+fn listed(marks: &[Mark; 4096], count: u16) -> &[Mark]
+    requires { count ≤ 4096 }
+    ensures { result.now ≡ listed marks.now count }
+{
+    &marks[..count as usize]
+}
+
+#[tactic(auto, unfolding(ticket::specs::Fields::fields_of))]
 pub fn verdict_on(t: &Ticket, image: &[u8]) -> Verdict
     requires { Readable (fields_of t.now) × (t.now.count ≤ 4096) }
     ensures { result ≡ verdict_on (fields_of t.now) image.now }
 {
-    verdict_by(t.header, &t.marks[..t.count as usize], image)
+    verdict_by(t.header, listed(&t.marks, t.count), image)
 }

@@ -119,7 +119,8 @@ module _ (ticket image : List ℕ) (d : Data) (m : List ℕ) where
   -- by whether the memory has 65,536 bytes
   home_sized : (bytes : AllBytes ticket) (b : Bool) → eqb (length m) 65536 ≡ b
       → Home (cond b (start_routine_by (certification_of ticket image) d image m) (after_start (Err (refusal 21 0)) m))
-  home_sized bytes true e = home_by bytes (eqb-true _ _ e) (certification_of ticket image) (homeward ticket image bytes)
+  home_sized bytes true e s h =
+      home_by bytes (eqb-true _ _ e) (certification_of ticket image) (homeward ticket image bytes) s h
   home_sized bytes false e s h = absurd cc
 
 pub started_comes_home : (ticket image : List ℕ) → AllBytes ticket → (d : Data) (m : List ℕ) →
