@@ -10,7 +10,7 @@ use native.Mathlib.Omega.{arith}
 use native.Mathlib.Nat.{add-zero}
 use native.Mathlib.Numerals.{add-one}
 use lib.Dec.{eqb}
-use lib.ListN.{length, get_or, take}
+use lib.ListN.{get_or, take}
 use lib.Seq.{get_or-take, length-take-le, ext_get_or}
 use borrow.Author.Tests.{eq-eqb}
 use Rattle.commands.specs.declared.header.Window.{Window}
@@ -18,7 +18,7 @@ use Rattle.commands.specs.Every.{Every}
 use Rattle.commands.proofs.Every.{every_map}
 use Rattle.ticket.specs.Rules.{In}
 use Rattle.records.specs.declared.progress.FileProgress.{FileProgress}
-use Rattle.records.specs.Record.{Record, Given, given_from, Records, s0, s1, s5, s9, there, Names}
+use Rattle.records.specs.Record.{Record, Given, given_from, Records, s0, s1, s5, s9, Names}
 use Rattle.records.specs.Read.{lines_of, address_of, typed, enter, given_by, after}
 use Rattle.records.specs.Read.{named, all_given, close_of, file_from, initial}
 use Rattle.records.specs.Read.{blank_cells, file_of}

@@ -7,11 +7,11 @@ use mathlib.Core.List.{List, [], ◌∷◌, ◌++◌}
 use Rattle.std.specs.Prelude.{Option, None, Some}
 use native.Mathlib.Omega.{arith}
 use lib.Dec.{leb, ltb}
-use borrow.Author.Tests.{leb-true, ltb-false, le-leb, lt-leb, lt-ltb, le-ltb, eqb-true, ne_eqb}
+use borrow.Author.Tests.{leb-true, ltb-false, le-leb, lt-leb, le-ltb, eqb-true, ne_eqb}
 use Rattle.lists.specs.Digit.{digit_of}
 use Rattle.commands.specs.Every.{Every}
 use Rattle.commands.specs.Number.{AllBytes}
-use Rattle.ticket.proofs.Says.{ltb_says, eqb_says}
+use Rattle.ticket.proofs.Says.{eqb_says}
 use Rattle.records.specs.Record.{Digit, decimal, upper, lower, Hex, more, LineEnd, lf, cr_lf}
 use Rattle.records.specs.Read.{ends_of, pair_of, before, bytes_of}
 use Rattle.records.proofs.Inverse.{some_same}

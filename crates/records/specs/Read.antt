@@ -1,7 +1,7 @@
 -- Reading an S-record file, line by line: the image that it names, or the first cause with its place (document 02, a:
 -- 25 malformed line, 26 wrong checksum, 27 byte outside the code window, given twice, or never given).
 -- Assumes nothing.
-use Rattle.std.specs.Prelude.{ℕ, ◌+◌, ◌-◌, ◌*◌, ◌%◌, Bool, true, false, cond, not, ◌&&◌, List, [], ◌∷◌, ◌++◌, eqb, leb}
+use Rattle.std.specs.Prelude.{ℕ, ◌+◌, ◌-◌, ◌*◌, ◌%◌, Bool, true, false, cond, not, ◌&&◌, List, [], ◌∷◌, eqb, leb}
 use Rattle.std.specs.Prelude.{ltb, length, get_or, set, take, drop, replicate, Option, Some, None}
 use Rattle.std.specs.List.{list_all}
 use Rattle.lists.specs.Digit.{digit_of}

@@ -41,10 +41,7 @@ pub fn read_lines(code: Window, file: &[u8], cells: &mut Cells) -> Result<(), Re
     let mut rest = file;
     while !rest.is_empty() {
         let (line, others) = rest.split_at(line_length(rest));
-        match judge(code, p, line, cells) {
-            Err(number) => return Err(refused_at(number, p)),
-            Ok(q) => p = q,
-        }
+        p = judge(code, p, line, cells).map_err(|number| refused_at(number, p))?;
         rest = others;
     }
     if !p.ended {

@@ -1,6 +1,6 @@
 -- `read_lines` meets its contract: a line more is read, and fewer bytes are left.
 -- Assumes nothing.
-use Rattle.std.proofs.Common.{◌<◌, length, sym, rules, tests}
+use Rattle.std.proofs.Common.{◌≡◌, ◌<◌, length, Ok, sym, rules, tests}
 use Rattle.records.proofs.Lines.{shorter}
 use Rattle.records.proofs.Course.{goes_on}
 use Rattle.records.proofs.file.read_lines.Goals as goal
@@ -12,6 +12,7 @@ loop-rest-smaller c =
 
 pub loop-rest-preserved : goal.loop-rest-preserved
 loop-rest-preserved c =
-    let o = rw (c.in-Ok.is, c.split_at.ensures.front) at (sym c.judge.ensures) in
+    let judged : c.judge.result ≡ Ok c.in_ok-p.p = search rules in
+    let o = rw (judged, c.split_at.ensures.front) at (sym c.judge.ensures) in
     let some : 0 < length c.loop-rest.rest.now = search (rules, tests) in
     rw c.split_at.ensures.back (goes_on c.loop-rest.invariant some c.line_length.ensures.0 o c.judge.array_long)
