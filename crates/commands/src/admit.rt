@@ -67,6 +67,7 @@ fn after(p: Progress, c: Command) -> Progress
     }
 }
 
+#[tactic(auto, unfolding(crate::specs::Admit::admit_of))]
 pub fn admit(p: Progress, c: Command) -> Result<Progress, Refusal>
     requires { Sound p }
     ensures { result ≡ admit_of p c }

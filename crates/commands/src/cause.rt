@@ -51,6 +51,7 @@ fn all_printable(s: &[u8]) -> bool
 }
 
 // The last bytes of a number.
+#[tactic(auto, using(crate::proofs::Digits::last_digits))]
 fn printable(text: u64, width: usize) -> bool
     requires { width ≤ 8 }
     ensures { result ≡ printable (digits width text) }

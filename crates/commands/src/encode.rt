@@ -8,6 +8,7 @@ use crate::number::put_number;
 use crate::row::{row_of, size};
 
 // How many bytes a command has.
+#[tactic(auto, unfolding(crate::specs::Bytes::width_of), using(crate::proofs::Table::row_sizes))]
 pub fn width_of(c: Command) -> u32
     ensures { result ≡ width_of c }
 {

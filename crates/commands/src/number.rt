@@ -3,6 +3,7 @@ ghost use Rattle.std.specs.Prelude.{◌≡◌, ◌≤◌, ◌^◌, ◌<◌, leng
 ghost use Rattle.commands.specs.Number.{number, digits};
 
 // The number that some bytes stand for.
+#[tactic(auto, using(crate::proofs::Digits::read_next))]
 pub fn number(s: &[u8]) -> u64
     requires { length s.now ≤ 8 }
     ensures { (result ≡ number s.now) × (result < 256 ^ length s.now) }
@@ -15,6 +16,7 @@ pub fn number(s: &[u8]) -> u64
 }
 
 // As many of a number's last bytes as there is room for.
+#[tactic(auto, using(crate::proofs::Digits::last_digits))]
 pub fn put_number(v: u64, out: &mut [u8])
     requires { length out.old ≤ 8 }
     ensures { out.new ≡ digits (length out.old) v }

@@ -89,14 +89,6 @@ loop-v-init c =
       narrow = row_narrow (command_byte_of c.args.c) r.result is_row;
     }
 
-pub overflow_add-next : goal.overflow_add-next
-overflow_add-next c = omega (arith, sized _ _ c.byte_of-b.ensures _ c.row_of-row.ensures)
-
-pub put_number-requires : goal.put_number-requires
-put_number-requires c =
-    let n = (first (rw c.in-Some.ensures.steps.1 at c.loop-v.invariant.narrow)).0 in
-    simp length-take (omega arith)
-
 pub loop-v-preserved : goal.loop-v-preserved
 loop-v-preserved c =
     let l = c.loop-v in

@@ -1,12 +1,12 @@
 -- `operands_in` meets its contract: each operand takes its bytes off what is left.
 -- Assumes nothing.
-use mathlib.Core.Path.{◌≡◌, refl, sym, ◌∙◌}
+use mathlib.Core.Path.{◌≡◌, ◌∙◌}
 use Prim.Native.Nat.{ℕ, ◌+◌, ◌<◌}
-use mathlib.Core.List.{List, ◌∷◌, ◌++◌, append_assoc, append-nil}
+use mathlib.Core.List.{List, ◌∷◌, ◌++◌, append_assoc}
 use native.Mathlib.Omega.{arith}
 use native.Mathlib.Numerals.{add-one}
 use lib.ListN.{length, get_or, take, drop, set, length-set}
-use lib.Seq.{drop-cons, drop-length, take-suc-set, take_all}
+use lib.Seq.{drop-cons, take-suc-set}
 use Rattle.std.proofs.Common.{◌≢◌, below_more, get_or-set_same, get_or-set_other}
 use Rattle.std.proofs.lemmas.List.Sums.{sum_by-cons}
 use Rattle.commands.specs.inner.Table.{absent, code_size}
@@ -24,25 +24,6 @@ sum o os = sum_by-cons (λ (x : TableOperand). x.width) o os
 -- one value more
 set_next : (vs : List ℕ) (i x : ℕ) (s : List ℕ) → i < length vs → take i vs ++ (x ∷ s) ≡ take (i + 1) (set vs i x) ++ s
 set_next vs i x s h = rw (add-one, take-suc-set, append_assoc)
-
-pub loop-i-init : goal.loop-i-init
-loop-i-init c =
-    record {
-      read = refl;
-      four = refl;
-      narrow = c.requires.0;
-      enough = c.requires.1;
-      fits = λ k h. absurd (omega arith);
-    }
-
-pub split_at-requires : goal.split_at-requires
-split_at-requires c =
-    let l = c.loop-i in
-    let os = c.args.row.operands in
-    let four : length os ≡ 4 = omega arith in
-    let n = next os l.i four (omega arith) in
-    let e = rw n at l.invariant.enough in
-    omega (arith, e, sum (get_or os l.i absent) (drop (l.i + 1) os))
 
 pub number-requires : goal.number-requires
 number-requires c =
@@ -72,14 +53,3 @@ loop-i-preserved c =
           (λ k h. let ne : k ≢ l.i = omega arith in rw get_or-set_other (i.fits k h))
           (rw get_or-set_same (rw s.front_len at c.number.ensures.1));
     }
-
-pub returns : goal.returns
-returns c =
-    let l = c.loop-i in
-    let i = l.invariant in
-    let os = c.args.row.operands in
-    let end : l.i ≡ 4 = omega arith in
-    let four : 4 ≡ length os = omega arith in
-    let f = rw end at i.fits in
-    let r = rw (end, take_all 4 l.values (omega (arith, i.four)), four, drop-length, append-nil) at i.read in
-    (sym r, (f 0 (omega arith), f 1 (omega arith), f 2 (omega arith), f 3 (omega arith)))

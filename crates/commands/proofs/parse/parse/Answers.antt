@@ -15,7 +15,7 @@ use Rattle.commands.specs.declared.command.Command.{Command}
 use Rattle.std.specs.Prelude.{Ok, Err}
 use Rattle.commands.specs.declared.parse.ParseError.TheVariants.{Unknown, Cut}
 use Rattle.commands.specs.declared.row.TableRow.{TableRow as CodeRow}
-use Rattle.commands.proofs.Table.{row_sizes, row_small, row_narrow, row_values}
+use Rattle.commands.proofs.Table.{row_sizes, row_narrow, row_values}
 use Rattle.commands.proofs.parse.parse.Goals as goal
 
 nothing_left : (s : List ℕ) → length s ≡ 0 → Err Cut ≡ parse_of s
@@ -77,9 +77,6 @@ returns-then-left-size c =
     let s = c.args.s.now in
     let part = rw (rest s) at c.if-left-size.true in
     cut s (omega arith) (omega arith) c.row_of-row.result c.row_of-row.ensures (omega (arith, length-drop 1 s))
-
-pub size-requires : goal.size-requires
-size-requires c = row_small _ _ c.row_of-row.ensures
 
 pub operands_in-requires : goal.operands_in-requires
 operands_in-requires c =
