@@ -4,7 +4,6 @@
 use Rattle.std.specs.Prelude.{ℕ, List, [], ◌++◌}
 use Rattle.registers.specs.Word.{target_of}
 use Rattle.opcodes.specs.declared.instruction.Mode.{Mode}
-use Rattle.opcodes.specs.declared.instruction.Mode.TheVariants as Mode
 use Rattle.lists.specs.Ascii.{ascii}
 use Rattle.text.specs.Text.{padded}
 use Rattle.text.specs.Number.{byte_hex, hex_of}
