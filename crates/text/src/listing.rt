@@ -28,6 +28,7 @@ fn column(shown: bool, b: u8) -> [u8; 2]
 }
 
 // The first n of five bytes.
+#[tactic(auto, using(crate::proofs::ListingColumns::shown))]
 fn bytes(n: u16, a: u8, b: u8, c: u8, d: u8, e: u8) -> [u8; 14]
     ensures { result ≡ bytes_text n (five a b c d e) }
 {
