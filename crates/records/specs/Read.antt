@@ -87,7 +87,7 @@ enter w cs (x ∷ g) =
 abbrev pub given_by : ℕ → List ℕ → List Given
 given_by t bs = cond (eqb t 0x31) (given_from (address_of bs) (data_of bs)) []
 
--- of a line: its cause, or what it leaves for the next
+-- of a line: its cause, or what it leaves for the next; two values, and so no Result
 pub data LineOutcome : Type 0 where
   cause : ℕ → LineOutcome
   next : FileProgress → List ℕ → LineOutcome
@@ -111,7 +111,7 @@ line_by w p cs s t (Some bs) =
 unfoldable pub line_of : Window → FileProgress → List ℕ → List ℕ → LineOutcome
 line_of w p cs l = line_by w p cs (get_or l 0 0) (get_or l 1 0) (bytes_of (drop 2 l))
 
--- of the file: the image, or a refusal
+-- of the file: the image, or a refusal; no Result, as `good_exactly` and `file_numbered` are stated over this
 pub data FileOutcome : Type 0 where
   named : List ℕ → FileOutcome
   refused : Refusal → FileOutcome

@@ -7,7 +7,8 @@ ghost use Rattle.records.specs.inner.Decoded.{entered};
 
 use commands::header::Window;
 
-// As many as a code window has bytes at most.
+// As many as a code window has bytes at most. Numbers and not options of bytes, as the definitions `blank_cells` and
+// `all_given` are over numbers.
 pub type Cells = [u16; 4096];
 
 // None is given yet.

@@ -33,6 +33,7 @@ pub fn read_lines(code: Window, file: &[u8], cells: &mut Cells) -> Result<(), Re
     requires { (code.length ≤ 4096) × (cells.old ≡ blank_cells) }
     ensures { after_lines code result cells.new ≡ file_of code file.now }
 {
+    // no Default: the must-fail edit s5_off_by_one counts from another number here
     let mut p = FileProgress {
         lines: 0,
         s1: 0,

@@ -59,8 +59,8 @@ fn listed(place: usize, bytes: [u8; 14], u: u8, v: u8, w: u8, next: u16) -> List
     }
 }
 
-// The instruction at an address, from the five bytes there on. Where there is none: the first byte alone, "-" for a
-// mnemonic and no operand.
+// The instruction at an address, from the five bytes there on, one by one as `five` has them. Where there is none: the
+// first byte alone, "-" for a mnemonic and no operand.
 pub fn list(pc: u16, a: u8, b: u8, c: u8, d: u8, e: u8) -> Listing
     ensures { result ≡ listing_of pc (five a b c d e) }
 {

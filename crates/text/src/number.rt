@@ -1,4 +1,4 @@
-// Hexadecimal numbers as text, and text into a buffer.
+// Hexadecimal numbers as text, and text into a buffer. No `write!`: it answers a Result that no caller could need.
 ghost use Rattle.std.specs.Prelude.{◌≡◌, ◌+◌, ◌≤◌, ◌<◌, length};
 ghost use Rattle.lists.specs.Splice.{spliced};
 ghost use Rattle.text.specs.Number.{glyph_of, byte_hex, hex_of};

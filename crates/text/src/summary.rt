@@ -19,7 +19,7 @@ pub struct Visits {
 }
 
 impl Visits {
-    // None yet.
+    // None yet. No Option: how often is printed of every address.
     pub const NONE: Visits = Visits {
         times: 0,
         least: 0,
