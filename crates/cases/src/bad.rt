@@ -2,7 +2,7 @@
 // refusal leaves memory as it was, which is looked at byte by byte.
 use crate::documented::memory_with;
 use crate::print::{ran, stepped};
-use answers::Refusal;
+use answers::{Cause, Refusal};
 use check::same;
 use output::{decimal, text};
 use registers::Registers;
@@ -56,10 +56,10 @@ enum Outcome {
 }
 
 fn refused(x: Refusal, unchanged: bool) -> Outcome {
-    match x.number {
+    match x.cause {
         _ if !unchanged | (x.place != 0x8000) => Outcome::Wrong,
-        22 => Outcome::Empty,
-        23 => Outcome::Waits,
+        Cause::NoInstruction => Outcome::Empty,
+        Cause::Waits => Outcome::Waits,
         _ => Outcome::Wrong,
     }
 }

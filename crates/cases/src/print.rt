@@ -14,7 +14,7 @@ fn reached(rt: &impl Print, r: Reached) {
 // Document 01's number and place.
 fn refusal(rt: &impl Print, x: Refusal) {
     text(rt, b"refused ");
-    decimal(rt, x.number as u64);
+    decimal(rt, x.cause.number() as u64);
     word(rt, b" at ", (x.place % 65536) as u16);
 }
 

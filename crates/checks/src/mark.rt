@@ -6,6 +6,7 @@ ghost use Rattle.checks.specs.inner.Said.{ordinary_said};
 ghost use Rattle.checks.specs.inner.MarkCause.{in_data, claims_in, follows_of, ordinary_of, called_of, call_of};
 ghost use Rattle.checks.specs.inner.MarkCause.{return_of, mark_cause_of};
 
+use answers::Cause;
 use crate::marks::claim_at;
 use crate::shape::{Call, Ordinary, Shape, Successors, Writes};
 use commands::command::Claim;
@@ -59,90 +60,90 @@ fn need_covers(k: Claim, o: Ordinary, x: Claim) -> bool
 }
 
 // With the claims at both successors.
-fn follows(k: Claim, o: Ordinary, x: Claim, y: Claim) -> u8
+fn follows(k: Claim, o: Ordinary, x: Claim, y: Claim) -> Result<(), Cause>
     ensures { result ≡ follows_of k o x y }
 {
     if !(depth_agrees(k, o, x) & depth_agrees(k, o, y)) {
-        return 15;
+        return Err(Cause::DepthsDisagree);
     }
     if !(cost_covers(k, o.cycles, x) & cost_covers(k, o.cycles, y)) {
-        return 16;
+        return Err(Cause::CostTooLow);
     }
     if !(need_covers(k, o, x) & need_covers(k, o, y)) {
-        return 17;
+        return Err(Cause::NeedTooLow);
     }
-    0
+    Ok(())
 }
 
-fn ordinary(w: Window, marks: &[Mark], k: Claim, o: Ordinary) -> u8
+fn ordinary(w: Window, marks: &[Mark], k: Claim, o: Ordinary) -> Result<(), Cause>
     requires { Rising marks.now }
     ensures { result ≡ ordinary_of w marks.now k o }
 {
     if !in_data(w, o.writes) {
-        return 12;
+        return Err(Cause::WritesOutside);
     }
     if k.depth.0 < o.pulled.0 {
-        return 13;
+        return Err(Cause::BadPull);
     }
     let Some((x, y)) = claims_in(marks, o.next) else {
-        return 14;
+        return Err(Cause::NotMarked);
     };
     follows(k, o, x, y)
 }
 
 // A call: x is the claim at its target and y the one at the following address.
-fn called(k: Claim, cycles: Cycles, x: Claim, y: Claim) -> u8
+fn called(k: Claim, cycles: Cycles, x: Claim, y: Claim) -> Result<(), Cause>
     ensures { result ≡ called_of k cycles.0 x y }
 {
     if !((x.depth.0 == 0) & (y.depth.0 == k.depth.0)) {
-        return 15;
+        return Err(Cause::DepthsDisagree);
     }
     if (k.cost.0 as u64) < (cycles.0 as u64) + (x.cost.0 as u64) + (y.cost.0 as u64) {
-        return 16;
+        return Err(Cause::CostTooLow);
     }
     if !((2 + (x.need.0 as u32) <= (k.need.0 as u32)) & (y.need.0 <= k.need.0)) {
-        return 17;
+        return Err(Cause::NeedTooLow);
     }
-    0
+    Ok(())
 }
 
-fn call(marks: &[Mark], k: Claim, c: Call) -> u8
+fn call(marks: &[Mark], k: Claim, c: Call) -> Result<(), Cause>
     requires { Rising marks.now }
     ensures { result ≡ call_of marks.now k c }
 {
     let Some((x, y)) = claims_in(marks, Successors::Two(c.target, c.after)) else {
-        return 14;
+        return Err(Cause::NotMarked);
     };
     called(k, c.cycles, x, y)
 }
 
 // The return address does not count as pulled.
-fn return_from(k: Claim, cycles: Cycles) -> u8
+fn return_from(k: Claim, cycles: Cycles) -> Result<(), Cause>
     ensures { result ≡ return_of k cycles.0 }
 {
     if k.depth.0 != 0 {
-        return 13;
+        return Err(Cause::BadPull);
     }
     if k.cost.0 < cycles.0 {
-        return 16;
+        return Err(Cause::CostTooLow);
     }
-    0
+    Ok(())
 }
 
-// The first cause that applies, or 0. `inside` says that the instruction does not leave the code window.
+// The first cause that applies. `inside` says that the instruction does not leave the code window.
 #[tactic(auto, unfolding(crate::specs::inner::MarkCause::mark_cause_of))]
-pub fn mark_cause(w: Window, marks: &[Mark], k: Claim, s: Shape, inside: bool) -> u8
+pub fn mark_cause(w: Window, marks: &[Mark], k: Claim, s: Shape, inside: bool) -> Result<(), Cause>
     requires { Rising marks.now }
     ensures { result ≡ mark_cause_of w marks.now k s inside }
 {
     if !inside {
-        return 10;
+        return Err(Cause::BadMark);
     }
     match s {
         Shape::Ordinary(o) => ordinary(w, marks, k, o),
         Shape::Call(c) => call(marks, k, c),
         Shape::Return(cycles) => return_from(k, cycles),
-        Shape::Forbidden => 11,
-        Shape::Nothing => 10,
+        Shape::Forbidden => Err(Cause::KeptOut),
+        Shape::Nothing => Err(Cause::BadMark),
     }
 }

@@ -9,12 +9,12 @@ use crate::image::shape_at;
 use crate::mark::mark_cause;
 use crate::marks::claim_at;
 use crate::whole::whole;
-use answers::{Verdict, refuse};
+use answers::{Cause, Verdict, refuse};
 use commands::header::{Header, past};
 use ticket::fields::{Mark, Ticket};
 
-// The first cause that applies at a mark, or 0.
-fn cause_at(h: Header, marks: &[Mark], image: &[u8], m: Mark) -> u8
+// The first cause that applies at a mark.
+fn cause_at(h: Header, marks: &[Mark], image: &[u8], m: Mark) -> Result<(), Cause>
     requires rising { Rising marks.now }
     requires start_le_address { h.code.start ≤ m.address }
     ensures { CauseIs (record { header = h; marks = marks.now }) image.now m result }
@@ -29,12 +29,11 @@ fn verdict_by(h: Header, marks: &[Mark], image: &[u8]) -> Verdict
     ensures { result ≡ verdict_on (record { header = h; marks = marks.now }) image.now }
 {
     if image.len() != (h.code.length as usize) {
-        return Err(refuse(9, 0));
+        return Err(refuse(Cause::BadImage, 0));
     }
     for m in marks {
-        let n = cause_at(h, marks, image, *m);
-        if n != 0 {
-            return Err(refuse(n, m.address as u32));
+        if let Err(cause) = cause_at(h, marks, image, *m) {
+            return Err(refuse(cause, m.address as u32));
         }
     }
     whole(h, claim_at(marks, h.entry))

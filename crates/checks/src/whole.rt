@@ -2,7 +2,7 @@
 ghost use Rattle.std.specs.Prelude.{◌≡◌};
 ghost use Rattle.checks.specs.inner.Whole.{whole_of};
 
-use answers::{Acceptance, Verdict, refuse};
+use answers::{Acceptance, Cause, Verdict, refuse};
 use commands::command::Claim;
 use commands::header::Header;
 use registers::StackBytes;
@@ -13,16 +13,16 @@ pub fn whole(h: Header, a: Option<Claim>) -> Verdict
 {
     let entry = h.entry as u32;
     let Some(c) = a else {
-        return Err(refuse(18, entry));
+        return Err(refuse(Cause::BadEntry, entry));
     };
     if c.depth.0 != 0 {
-        return Err(refuse(18, entry));
+        return Err(refuse(Cause::BadEntry, entry));
     }
     if h.limit.0 < c.cost.0 {
-        return Err(refuse(19, entry));
+        return Err(refuse(Cause::OverLimit, entry));
     }
     if (h.stack.length as u32) < (c.need.0 as u32) + 2 {
-        return Err(refuse(20, entry));
+        return Err(refuse(Cause::StackTooSmall, entry));
     }
     Ok(Acceptance {
         entry: h.entry,

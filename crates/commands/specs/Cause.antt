@@ -12,6 +12,9 @@ use Rattle.commands.specs.declared.command.HeaderCommand.TheVariants.{Code, Data
 use Rattle.commands.specs.declared.command.Command.{Command}
 use Rattle.commands.specs.declared.header.Header.{Header}
 use Rattle.commands.specs.declared.progress.Progress.{Progress}
+use Rattle.answers.specs.declared.Cause.{Cause}
+use Rattle.answers.specs.declared.Cause.TheVariants.{OutOfOrder, OutOfRange, WindowEdge, WindowsShare, MarkOutside}
+use Rattle.answers.specs.declared.Cause.TheVariants.{BadHome}
 
 -- marks in rising address, none equal; a name at once after its mark, same address, at most one
 abbrev pub follows : Progress → Command → Bool
@@ -87,11 +90,15 @@ inside h (Command.Mark a c) = holds h.code a
 inside h (Command.Name a t) = true
 inside h Command.End = true
 
--- the first cause that applies, or 0
-unfoldable pub command_cause_of : Progress → Command → ℕ
+-- the first cause that applies
+unfoldable pub command_cause_of : Progress → Command → Result Unit Cause
 command_cause_of p c =
     cond (in_order p c)
     (cond (ranges_hold c)
     (cond (edges_hold c)
-    (cond (separate p.header c) (cond (home_outside p.header c) (cond (inside p.header c) 0 7) 29) 6) 5) 4)
-    3
+    (cond (separate p.header c)
+    (cond (home_outside p.header c) (cond (inside p.header c) (Ok tt) (Err MarkOutside)) (Err BadHome))
+    (Err WindowsShare))
+    (Err WindowEdge))
+    (Err OutOfRange))
+    (Err OutOfOrder)

@@ -54,7 +54,7 @@ fn named(p: Progress, width: u32, stage: u8) -> Progress
 }
 
 fn after(p: Progress, c: Command) -> Progress
-    requires { Sound p × (command_cause_of p c ≡ 0) }
+    requires { Sound p × (command_cause_of p c ≡ Ok tt) }
     ensures { result ≡ after_of p c }
 {
     let width = width_of(c);
@@ -72,10 +72,8 @@ pub fn admit(p: Progress, c: Command) -> Result<Progress, Refusal>
     requires { Sound p }
     ensures { result ≡ admit_of p c }
 {
-    let number = cause(p, c);
-    if number == 0 {
-        Ok(after(p, c))
-    } else {
-        Err(refuse(number, p.at))
+    match cause(p, c) {
+        Ok(()) => Ok(after(p, c)),
+        Err(cause) => Err(refuse(cause, p.at)),
     }
 }

@@ -7,6 +7,7 @@ ghost use Rattle.commands.specs.Cause.{header_home_outside, home_outside, inside
 ghost use Rattle.commands.specs.inner.Table.{in_range_code};
 ghost use Rattle.commands.specs.inner.WindowCause.{window_cause_of};
 
+use answers::Cause;
 use crate::command::{Command, HeaderCommand, byte_of, operands_of, window};
 use crate::header::{Header, Window, holds, past};
 use crate::progress::Progress;
@@ -103,21 +104,21 @@ fn apart_from(h: Header, w: Window) -> bool
     apart(h.code, w) & (apart(h.data, w) & apart(h.stack, w))
 }
 
-// 5 or 6 of a window, or 0.
-fn window_cause(h: Header, c: Command) -> u8
+// 5 or 6 of a window.
+fn window_cause(h: Header, c: Command) -> Result<(), Cause>
     ensures { result ≡ window_cause_of h c }
 {
     let Some(least) = row_of(byte_of(c)).window else {
-        return 0;
+        return Ok(());
     };
     let w = window(operands_of(c));
     if !edges_within(w, least) {
-        return 5;
+        return Err(Cause::WindowEdge);
     }
     if !apart_from(h, w) {
-        return 6;
+        return Err(Cause::WindowsShare);
     }
-    0
+    Ok(())
 }
 
 fn header_home_outside(code: Window, c: HeaderCommand) -> bool
@@ -150,25 +151,22 @@ fn inside(h: Header, c: Command) -> bool
     }
 }
 
-// The first cause that applies, or 0.
-pub fn cause(p: Progress, c: Command) -> u8
+// The first cause that applies.
+pub fn cause(p: Progress, c: Command) -> Result<(), Cause>
     ensures { result ≡ command_cause_of p c }
 {
     if !in_order(p, c) {
-        return 3;
+        return Err(Cause::OutOfOrder);
     }
     if !ranges_hold(c) {
-        return 4;
+        return Err(Cause::OutOfRange);
     }
-    let number = window_cause(p.header, c);
-    if number != 0 {
-        return number;
-    }
+    window_cause(p.header, c)?;
     if !home_outside(p.header, c) {
-        return 29;
+        return Err(Cause::BadHome);
     }
     if !inside(p.header, c) {
-        return 7;
+        return Err(Cause::MarkOutside);
     }
-    0
+    Ok(())
 }

@@ -1,6 +1,6 @@
 // What stands at an offset of the ticket: a command, with the mark that it belongs to, or a byte after the end.
 use crate::hex::{byte, word};
-use answers::Refusal;
+use answers::{Cause, Refusal};
 use commands::command::Command;
 use commands::encode::width_of;
 use commands::parse::parse;
@@ -102,7 +102,7 @@ fn byte_line(rt: &impl Print, ticket: &[u8], place: u32) {
 }
 
 pub fn ticket_line(rt: &impl Print, x: Refusal, ticket: &[u8]) {
-    if x.number == 8 {
+    if x.cause == Cause::AfterEnd {
         byte_line(rt, ticket, x.place);
     } else {
         command_line(rt, ticket, x.place);

@@ -1,4 +1,5 @@
 // Figures of the ticket that a refusal is about.
+use answers::Cause;
 use crate::hex::word;
 use commands::header::{Header, Window};
 use output::text;
@@ -37,11 +38,11 @@ fn limit_line(rt: &impl Print, cycles: u32) {
 }
 
 // What a mark's claims are held against: of 12 it is the data window, of 19 the limit, of 20 the stack window.
-pub fn figures_line(rt: &impl Print, number: u8, h: Header) {
-    match number {
-        12 => window_line(rt, b"data window", h.data),
-        19 => limit_line(rt, h.limit.0),
-        20 => window_line(rt, b"stack window", h.stack),
+pub fn figures_line(rt: &impl Print, cause: Cause, h: Header) {
+    match cause {
+        Cause::WritesOutside => window_line(rt, b"data window", h.data),
+        Cause::OverLimit => limit_line(rt, h.limit.0),
+        Cause::StackTooSmall => window_line(rt, b"stack window", h.stack),
         _ => {}
     }
 }

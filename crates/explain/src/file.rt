@@ -1,7 +1,7 @@
 // What stands at the place in an S-record file: a line, the file's end, or no line at all.
 use crate::figures::window_line;
 use crate::given::missing_line;
-use answers::Refusal;
+use answers::{Cause, Refusal};
 use commands::header::Window;
 use output::{decimal, text};
 
@@ -66,7 +66,7 @@ pub fn file_lines(rt: &impl Print, x: Refusal, file: &[u8], code: Window) {
         Some(before) => line_at(rt, file, before),
         None => missing_line(rt, file, code),
     }
-    if x.number == 27 {
+    if x.cause == Cause::BadAddress {
         window_line(rt, b"code window", code);
     }
 }

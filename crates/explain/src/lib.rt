@@ -9,7 +9,7 @@ use crate::file::file_lines;
 use crate::hex::word;
 use crate::place::place_line;
 use crate::words::{to_do, words};
-use answers::Refusal;
+use answers::{Cause, Refusal};
 use commands::header::Window;
 use output::{decimal, text};
 use text::verdict::put_verdict;
@@ -31,13 +31,13 @@ fn verdict_line(rt: &impl Print, x: Refusal) {
 }
 
 // Whether a cause is found in the ticket's bytes: 1 to 8, and 29 of home.
-fn of_ticket(number: u8) -> bool {
-    matches!(number, 0..=8 | 29)
+fn of_ticket(cause: Cause) -> bool {
+    matches!(cause.number(), 1..=8 | 29)
 }
 
 // Whether it is found in an S-record file.
-pub fn of_file(number: u8) -> bool {
-    matches!(number, 25..=27)
+pub fn of_file(cause: Cause) -> bool {
+    matches!(cause, Cause::BadRecord | Cause::BadChecksum | Cause::BadAddress)
 }
 
 // The place in a ticket is an offset, from 10 to 20 an address; 9 has none.
@@ -46,9 +46,9 @@ fn place_label(rt: &impl Print, x: Refusal) {
     // where the place is the end, the file stops between two commands after 22 + 11 n bytes, with home after 25 + 11 n,
     // and neither is ever 65,536.
     let place = (x.place % 65536) as u16;
-    if of_ticket(x.number) {
+    if of_ticket(x.cause) {
         word(rt, b" at offset $", place);
-    } else if 9 < x.number {
+    } else if x.cause != Cause::BadImage {
         word(rt, b" at $", place);
     }
 }
@@ -62,24 +62,24 @@ fn line_label(rt: &impl Print, x: Refusal) {
 }
 
 fn cause_line(rt: &impl Print, x: Refusal) {
-    decimal(rt, x.number as u64);
-    if of_file(x.number) {
+    decimal(rt, x.cause.number() as u64);
+    if of_file(x.cause) {
         line_label(rt, x);
     } else {
         place_label(rt, x);
     }
     text(rt, b": ");
-    text(rt, words(x.number));
+    text(rt, words(x.cause));
     text(rt, b"\n");
 }
 
 fn judged_lines(rt: &impl Print, x: Refusal, t: &Ticket, image: &[u8]) {
-    if x.number == 9 {
+    if x.cause == Cause::BadImage {
         lengths_line(rt, t.header.code, image);
         return;
     }
     place_line(rt, t, (x.place % 65536) as u16, image);
-    figures_line(rt, x.number, t.header);
+    figures_line(rt, x.cause, t.header);
 }
 
 // What stands at the place: in a ticket that is refused at reading a command or a byte, else an instruction or figures.
@@ -92,7 +92,7 @@ fn place_lines(rt: &impl Print, x: Refusal, ticket: &[u8], image: &[u8]) {
 
 fn to_do_line(rt: &impl Print, x: Refusal) {
     text(rt, b"to do: ");
-    text(rt, to_do(x.number));
+    text(rt, to_do(x.cause));
     text(rt, b"\n");
 }
 

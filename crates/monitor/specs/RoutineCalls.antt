@@ -9,6 +9,7 @@ use Rattle.verdict.specs.Start.{Started, started_of, loaded_of}
 use Rattle.verdict.specs.Routine.{start_routine_of}
 use Rattle.monitor.specs.RegisterBytes.{register_size, packed, unpacked}
 use Rattle.monitor.specs.Slot.{slot_size, slot_of, header_in}
+use Rattle.answers.specs.Cause.{number_of}
 
 -- the verdict's call: its outcome, and the numbers that it was lent, afterwards
 pub record VerdictCall : Type 0 where
@@ -27,7 +28,7 @@ verdict_call n e h c s p = record { outcome = n; entry = e; home = h; cost = c; 
 abbrev pub of_judged : Certification → (e h c s p : ℕ) → VerdictCall
 of_judged (Ok k) e h c s p =
     verdict_call 0 k.header.entry k.header.home k.cost.0 k.stack.0 p
-of_judged (Err r) e h c s p = verdict_call r.number e h c s r.place
+of_judged (Err r) e h c s p = verdict_call (number_of r.cause) e h c s r.place
 
 -- a start's call: its outcome, and the numbers and the bytes that it was lent, afterwards
 pub record StartCall : Type 0 where
@@ -43,7 +44,7 @@ start_call n h p rs m = record { outcome = n; home = h; place = p; registers = r
 -- h, p and rs are home, the place and the register bytes before it, m the memory after it
 abbrev pub of_started : Started → (h p : ℕ) (rs m : List ℕ) → StartCall
 of_started (Ok s) h p rs m = start_call 0 s.home p (packed s.registers) m
-of_started (Err r) h p rs m = start_call r.number h r.place rs m
+of_started (Err r) h p rs m = start_call (number_of r.cause) h r.place rs m
 
 -- 21 at 0 is checked first, of the registers and of the memory; then what the verdict refuses is refused
 unfoldable pub start_bytes_of : (home place : ℕ) (ticket image registers memory : List ℕ) → StartCall
@@ -62,7 +63,7 @@ certify_call n p bs = record { outcome = n; place = p; slot = bs }
 
 abbrev pub of_certification : Certification → (p : ℕ) (slot : List ℕ) → CertifyCall
 of_certification (Ok c) p bs = certify_call 0 p (slot_of c)
-of_certification (Err r) p bs = certify_call r.number r.place bs
+of_certification (Err r) p bs = certify_call (number_of r.cause) r.place bs
 
 -- 21 at 0 is checked first, of the slot; then what the verdict refuses is refused
 unfoldable pub certify_bytes_of : (place : ℕ) (ticket image slot : List ℕ) → CertifyCall

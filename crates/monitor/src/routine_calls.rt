@@ -1,6 +1,7 @@
 // A routine judged and started on the registers' bytes, and the number that a call answers. An inner module of the C
 // calls.
 ghost use Rattle.std.specs.Prelude.{List, ◌≡◌, ℕ};
+ghost use Rattle.answers.specs.Cause.{number_of};
 ghost use Rattle.registers.specs.Registers.{data_of};
 ghost use Rattle.monitor.specs.RegisterBytes.{unpacked};
 ghost use Rattle.monitor.specs.inner.Replies.{reply_number, reply_place, start_replied};
@@ -8,16 +9,16 @@ ghost use Rattle.monitor.specs.RoutineCalls.{start_call, of_started, start_bytes
 
 use crate::register_bytes::{RegisterBytes, pack, unpack};
 use crate::stepper_calls::DONE;
-use answers::{Refusal, refuse};
+use answers::{Cause, Refusal, refuse};
 use registers::Data;
 use verdict::{Started, start_routine};
 
 // A refusal's number; its place is written.
 pub fn refused(x: Refusal, place: &mut u32) -> u32
-    ensures { (result ≡ x.number) × (place.new ≡ x.place) }
+    ensures { (result ≡ number_of x.cause) × (place.new ≡ x.place) }
 {
     *place = x.place;
-    x.number as u32
+    u32::from(x.cause.number())
 }
 
 // Of a call that has nothing to answer beside the lent bytes but a refusal's place: only a refusal writes it.
@@ -79,7 +80,7 @@ pub fn start_on(
         ≡ start_bytes_of h p ticket.now image.now regs.old mem.old }
 {
     let Some(bytes) = regs.as_mut_array() else {
-        return Err(refuse(21, 0));
+        return Err(refuse(Cause::BadLength, 0));
     };
     let d = data_in(bytes);
     stored(start_routine(ticket, image, d, mem), bytes)

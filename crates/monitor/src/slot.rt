@@ -8,7 +8,7 @@ ghost use Rattle.monitor.specs.inner.Put.{put_window};
 
 use crate::big_endian::{long_in, put_long, put_word, word_in};
 use crate::routine_calls::{data_in, stored};
-use answers::{Refusal, refuse};
+use answers::{Cause, Refusal, refuse};
 use commands::header::{Header, Window};
 use registers::Cycles;
 use verdict::{Certificate, certify, start};
@@ -67,7 +67,7 @@ pub fn certify_into(ticket: &[u8], image: &[u8], slot: &mut [u8]) -> Result<(), 
         ≡ certify_bytes_of p ticket.now image.now slot.old }
 {
     let Some(bytes) = slot.as_mut_array() else {
-        return Err(refuse(21, 0));
+        return Err(refuse(Cause::BadLength, 0));
     };
     let c = certify(ticket, image)?;
     put_slot(c, bytes);
@@ -85,10 +85,10 @@ pub fn start_from(
         ≡ start_slot_of h p slot.now image.now regs.old mem.old }
 {
     let Some(filled) = slot.as_array() else {
-        return Err(refuse(21, 0));
+        return Err(refuse(Cause::BadLength, 0));
     };
     let Some(bytes) = regs.as_mut_array() else {
-        return Err(refuse(21, 0));
+        return Err(refuse(Cause::BadLength, 0));
     };
     let d = data_in(bytes);
     stored(start(header_in(filled), image, d, mem), bytes)

@@ -61,7 +61,7 @@ pub fn step_on(regs: &mut [u8], mem: &mut [u8]) -> StepperReply
     let r = unpack(bytes);
     match stepper::step(r, mem) {
         Ok(q) => reached(q.registers, bytes, StepperReply::Done(DONE, q.cycles)),
-        Err(x) => StepperReply::Refused(x.number as u32, address_of(x)),
+        Err(x) => StepperReply::Refused(u32::from(x.cause.number()), address_of(x)),
     }
 }
 
@@ -82,7 +82,7 @@ pub fn run_on(regs: &mut [u8], mem: &mut [u8], home: u16, budget: u32) -> Steppe
         Ran::Spent(q) => reached(q.registers, bytes, StepperReply::Done(SPENT, q.cycles)),
         Ran::Refused(q, x) => {
             let s = StoppedRun {
-                number: x.number as u32,
+                number: u32::from(x.cause.number()),
                 cycles: q.cycles,
                 place: address_of(x),
             };

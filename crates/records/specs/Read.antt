@@ -12,6 +12,8 @@ use Rattle.commands.specs.declared.header.Window.{Window}
 use Rattle.commands.specs.Header.{holds}
 use Rattle.records.specs.declared.progress.FileProgress.{FileProgress}
 use Rattle.records.specs.Record.{Given, given_from, sum}
+use Rattle.answers.specs.declared.Cause.{Cause}
+use Rattle.answers.specs.declared.Cause.TheVariants.{BadRecord, BadChecksum, BadAddress}
 
 -- a byte before the first line of a file
 abbrev pub onto : ℕ → List (List ℕ) → List (List ℕ)
@@ -89,7 +91,7 @@ given_by t bs = cond (eqb t 0x31) (given_from (address_of bs) (data_of bs)) []
 
 -- of a line: its cause, or what it leaves for the next; two values, and so no Result
 pub data LineOutcome : Type 0 where
-  cause : ℕ → LineOutcome
+  cause : Cause → LineOutcome
   next : FileProgress → List ℕ → LineOutcome
 
 -- after a line of this type
@@ -98,15 +100,15 @@ after p t = record { lines = p.lines + 1; s1 = p.s1 + one (eqb t 0x31); ended = 
 
 -- 27: a byte outside the code window, or given twice
 abbrev pub entered_as : FileProgress → ℕ → Option (List ℕ) → LineOutcome
-entered_as p t None = cause 27
+entered_as p t None = cause BadAddress
 entered_as p t (Some cs) = next (after p t) cs
 
 -- a line's first two characters, and its bytes. 25: malformed, or after S9; 26: wrong checksum; then 27
 abbrev pub line_by : Window → FileProgress → List ℕ → ℕ → ℕ → Option (List ℕ) → LineOutcome
-line_by w p cs s t None = cause 25
+line_by w p cs s t None = cause BadRecord
 line_by w p cs s t (Some bs) =
     cond (not p.ended && (eqb s 0x53 && formed t p.s1 bs))
-    (cond (eqb (sum bs % 256) 255) (entered_as p t (enter w cs (given_by t bs))) (cause 26)) (cause 25)
+    (cond (eqb (sum bs % 256) 255) (entered_as p t (enter w cs (given_by t bs))) (cause BadChecksum)) (cause BadRecord)
 
 unfoldable pub line_of : Window → FileProgress → List ℕ → List ℕ → LineOutcome
 line_of w p cs l = line_by w p cs (get_or l 0 0) (get_or l 1 0) (bytes_of (drop 2 l))
@@ -126,8 +128,8 @@ all_given = list_all (λ c. ltb c 256)
 -- after the last line. 25: S9 is absent; 27: a byte was never given
 abbrev pub close_of : Window → FileProgress → List ℕ → FileOutcome
 close_of w p cs =
-    cond p.ended (cond (all_given (take w.length cs)) (named (take w.length cs)) (refused (refusal 27 0)))
-    (refused (refusal 25 (line_number p)))
+    cond p.ended (cond (all_given (take w.length cs)) (named (take w.length cs)) (refused (refusal BadAddress 0)))
+    (refused (refusal BadRecord (line_number p)))
 
 abbrev pub onward : FileProgress → LineOutcome → (FileProgress → List ℕ → FileOutcome) → FileOutcome
 onward p (cause n) f = refused (refusal n (line_number p))

@@ -7,7 +7,7 @@ ghost use Rattle.records.specs.inner.Decoded.{line_length, after_lines};
 use crate::cells::{Cells, all_given};
 use crate::line::judge;
 use crate::progress::FileProgress;
-use answers::{Refusal, refuse};
+use answers::{Cause, Refusal, refuse};
 use commands::header::Window;
 
 // How many bytes the first line has, its LF included; the last may have none.
@@ -21,11 +21,11 @@ fn line_length(s: &[u8]) -> usize
 }
 
 // A cause at the line after those so far, counted from 1.
-fn refused_at(number: u8, p: FileProgress) -> Refusal
+fn refused_at(cause: Cause, p: FileProgress) -> Refusal
     requires { p.lines < 18446744073709551615 }
-    ensures { result ≡ refusal number (line_number p) }
+    ensures { result ≡ refusal cause (line_number p) }
 {
-    refuse(number, ((p.lines + 1) % 4294967296) as u32)
+    refuse(cause, ((p.lines + 1) % 4294967296) as u32)
 }
 
 #[tactic(auto, using(crate::proofs::Course::begins, crate::proofs::Course::stops, crate::proofs::Course::unended, crate::proofs::Course::ungiven, crate::proofs::Course::given))]
@@ -46,10 +46,10 @@ pub fn read_lines(code: Window, file: &[u8], cells: &mut Cells) -> Result<(), Re
         rest = others;
     }
     if !p.ended {
-        return Err(refused_at(25, p));
+        return Err(refused_at(Cause::BadRecord, p));
     }
     if !all_given(&cells[..code.length as usize]) {
-        return Err(refuse(27, 0));
+        return Err(refuse(Cause::BadAddress, 0));
     }
     Ok(())
 }

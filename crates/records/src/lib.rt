@@ -7,7 +7,7 @@ ghost use Rattle.records.specs.Load.{after_load, load_of};
 
 use crate::cells::{blank, copy};
 use crate::file::read_lines;
-use answers::{Refusal, refuse};
+use answers::{Cause, Refusal, refuse};
 use commands::header::Window;
 
 pub mod progress; // how far a file is read
@@ -28,7 +28,7 @@ pub fn load_image(code: Window, file: &[u8], image: &mut [u8]) -> Result<(), Ref
     read_lines(code, file, &mut cells)?;
     let window = &cells[..code.length as usize];
     if image.len() != window.len() {
-        return Err(refuse(9, 0));
+        return Err(refuse(Cause::BadImage, 0));
     }
     copy(window, image);
     Ok(())

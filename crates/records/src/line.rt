@@ -3,6 +3,7 @@ ghost use Rattle.std.specs.Prelude.{◌≡◌, ◌≤◌, ◌<◌, length, Some}
 ghost use Rattle.records.specs.Read.{line_by, line_of};
 ghost use Rattle.records.specs.inner.Decoded.{after_line, Counted};
 
+use answers::Cause;
 use crate::cells::{Cells, enter};
 use crate::decode::decode;
 use crate::progress::FileProgress;
@@ -18,15 +19,15 @@ fn judged(
     t: u8,
     bytes: &[u8],
     cells: &mut Cells,
-) -> Result<FileProgress, u8>
+) -> Result<FileProgress, Cause>
     requires { Counted p × (code.length ≤ 4096) × (length bytes.now ≤ 256) }
     ensures { after_line result cells.new ≡ line_by code p cells.old s t (Some bytes.now) }
 {
     if p.ended || s != b'S' || !formed(t, p.s1, bytes) {
-        return Err(25);
+        return Err(Cause::BadRecord);
     }
     if sum(bytes) != 255 {
-        return Err(26);
+        return Err(Cause::BadChecksum);
     }
     if t != b'1' {
         return Ok(FileProgress {
@@ -37,7 +38,7 @@ fn judged(
     }
     let checksum = bytes.len() - 1;
     if !enter(code, address_of(bytes), &bytes[3..checksum], cells) {
-        return Err(27);
+        return Err(Cause::BadAddress);
     }
     Ok(FileProgress {
         lines: p.lines + 1,
@@ -52,16 +53,16 @@ pub fn judge(
     p: FileProgress,
     line: &[u8],
     cells: &mut Cells,
-) -> Result<FileProgress, u8>
+) -> Result<FileProgress, Cause>
     requires { Counted p × (code.length ≤ 4096) }
     ensures { after_line result cells.new ≡ line_of code p cells.old line.now }
 {
     let [s, t, digits @ ..] = line else {
-        return Err(25);
+        return Err(Cause::BadRecord);
     };
     let mut buffer = [0; 256];
     let Some(n) = decode(digits, &mut buffer) else {
-        return Err(25);
+        return Err(Cause::BadRecord);
     };
     judged(code, p, *s, *t, &buffer[..n], cells)
 }

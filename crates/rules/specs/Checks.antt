@@ -12,20 +12,24 @@ use Rattle.answers.specs.Verdict.{Verdict}
 use Rattle.rules.specs.Shape.{Ordinary, Shape, ordinary, call, return, forbidden, nothing, shape_of}
 use Rattle.rules.specs.Shape.{instruction_size}
 use Rattle.rules.specs.Marks.{claim_at, image_from}
+use Rattle.answers.specs.declared.Cause.{Cause}
+use Rattle.answers.specs.declared.Cause.TheVariants.{BadImage, BadMark, KeptOut, WritesOutside, BadPull, NotMarked}
+use Rattle.answers.specs.declared.Cause.TheVariants.{DepthsDisagree, CostTooLow, NeedTooLow, BadEntry, OverLimit}
+use Rattle.answers.specs.declared.Cause.TheVariants.{StackTooSmall}
 
--- a test, with the number of its cause and its place
+-- a test, with its cause and its place
 pub record Check : Type 0 where
-  pub number : ℕ
+  pub cause : Cause
   pub place : ℕ
   pub passes : Bool
 
-abbrev pub check : ℕ → ℕ → Bool → Check
-check n p b = record { number = n; place = p; passes = b }
+abbrev pub check : Cause → ℕ → Bool → Check
+check c p b = record { cause = c; place = p; passes = b }
 
 -- the first that fails, or what follows if none does
 abbrev pub first_failing : List Check → Verdict → Verdict
 first_failing [] v = v
-first_failing (c ∷ cs) v = cond c.passes (first_failing cs v) (Err (refusal c.number c.place))
+first_failing (c ∷ cs) v = cond c.passes (first_failing cs v) (Err (refusal c.cause c.place))
 
 abbrev pub all : (ℕ → Bool) → List ℕ → Bool
 all p [] = true
@@ -133,14 +137,14 @@ module _ (f : Fields) (k : Claim) where
 -- causes 10 to 17, at a mark; `inside` says that the instruction does not leave the code window
 abbrev pub checks_by : Fields → Mark → Shape → Bool → List Check
 checks_by f m s inside =
-    check 10 m.address (exists s && inside)
-    ∷ check 11 m.address (allowed s)
-    ∷ check 12 m.address (writes_in_data f m.claim s)
-    ∷ check 13 m.address (pulls_within_depth f m.claim s)
-    ∷ check 14 m.address (next_marked f m.claim s)
-    ∷ check 15 m.address (depths_agree f m.claim s)
-    ∷ check 16 m.address (costs_cover f m.claim s)
-    ∷ check 17 m.address (needs_cover f m.claim s)
+    check BadMark m.address (exists s && inside)
+    ∷ check KeptOut m.address (allowed s)
+    ∷ check WritesOutside m.address (writes_in_data f m.claim s)
+    ∷ check BadPull m.address (pulls_within_depth f m.claim s)
+    ∷ check NotMarked m.address (next_marked f m.claim s)
+    ∷ check DepthsDisagree m.address (depths_agree f m.claim s)
+    ∷ check CostTooLow m.address (costs_cover f m.claim s)
+    ∷ check NeedTooLow m.address (needs_cover f m.claim s)
     ∷ []
 
 unfoldable pub checks_at : Fields → List ℕ → Mark → List Check
@@ -157,19 +161,19 @@ abbrev pub whole_checks : Fields → List Check
 whole_checks f =
     let entry = f.header.entry in
     let claim = claim_at f.marks entry in
-    check 18 entry (is_marked claim && on_mark (has_depth 0) claim)
-    ∷ check 19 entry (on_mark (λ c. leb c.cost.0 f.header.limit.0) claim)
-    ∷ check 20 entry (on_mark (λ c. leb (c.need.0 + 2) f.header.stack.length) claim)
+    check BadEntry entry (is_marked claim && on_mark (has_depth 0) claim)
+    ∷ check OverLimit entry (on_mark (λ c. leb c.cost.0 f.header.limit.0) claim)
+    ∷ check StackTooSmall entry (on_mark (λ c. leb (c.need.0 + 2) f.header.stack.length) claim)
     ∷ []
 
 abbrev pub checks_of : Fields → List ℕ → List Check
 checks_of f image =
-    check 9 0 (eqb (length image) f.header.code.length)
+    check BadImage 0 (eqb (length image) f.header.code.length)
     ∷ (checks_of_marks f image f.marks ++ whole_checks f)
 
 -- where no check fails there is a claim at the entry
 abbrev pub accept_of : ℕ → Option Claim → Verdict
-accept_of entry None = Err (refusal 18 entry)
+accept_of entry None = Err (refusal BadEntry entry)
 accept_of entry (Some c) = Ok (record { entry = entry; cost = c.cost; stack = record { 0 = c.need.0 + 2 } })
 
 unfoldable pub verdict_on : Fields → List ℕ → Verdict

@@ -7,6 +7,7 @@ use Rattle.registers.specs.declared.Registers.{Registers}
 use Rattle.answers.specs.declared.Refusal.{Refusal}
 use Rattle.stepper.specs.declared.answer.Reached.{Reached}
 use Rattle.stepper.specs.declared.answer.Ran.{Ran}
+use Rattle.answers.specs.Cause.{number_of}
 
 -- of a step: the registers and the cycles, or a refusal's number and place
 pub data Answer : Type 0 where
@@ -31,9 +32,9 @@ cycles_spent (refused n p r k) = k.0
 
 abbrev pub answer_of : Result Reached Refusal → Answer
 answer_of (Ok q) = done q.registers q.cycles
-answer_of (Err x) = refused x.number x.place
+answer_of (Err x) = refused (number_of x.cause) x.place
 
 abbrev pub ran_of : Ran → RunAnswer
 ran_of (Ran.Home q) = home q.registers q.cycles
 ran_of (Ran.Spent q) = spent q.registers q.cycles
-ran_of (Ran.Refused q x) = refused x.number x.place q.registers q.cycles
+ran_of (Ran.Refused q x) = refused (number_of x.cause) x.place q.registers q.cycles

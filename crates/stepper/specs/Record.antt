@@ -7,6 +7,7 @@ use Rattle.registers.specs.declared.Registers.{Registers}
 use Rattle.answers.specs.declared.Refusal.{Refusal}
 use Rattle.stepper.specs.Answer.{Answer, done as step_done, refused as step_refused}
 use Rattle.stepper.specs.Step.{step_of}
+use Rattle.answers.specs.Cause.{number_of}
 
 -- the cycles, or a refusal's number and place
 pub data AdvanceAnswer : Type 0 where
@@ -30,7 +31,7 @@ advance_of r m = let d = step_of r m in after_step d.answer r d.memory
 -- what the code's answer says
 abbrev pub advanced_of : Result Cycles Refusal → AdvanceAnswer
 advanced_of (Ok k) = done k
-advanced_of (Err x) = refused x.number x.place
+advanced_of (Err x) = refused (number_of x.cause) x.place
 
 abbrev pub afterwards : Result Cycles Refusal → Registers → List ℕ → AfterAdvance
 afterwards a r m = record { answer = advanced_of a; registers = r; memory = m }

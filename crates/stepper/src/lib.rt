@@ -11,7 +11,7 @@ ghost use Rattle.stepper.specs.inner.Until.{ended_of, as_step};
 use crate::answer::{Ran, Reached, Stepped};
 use crate::environment::Environment;
 use crate::until::{Ended, run_until};
-use answers::refuse;
+use answers::{Cause, refuse};
 use registers::{Cycles, Registers};
 
 pub mod answer; // what a step and a run answer
@@ -25,7 +25,7 @@ fn stepped(a: Ended) -> Stepped
 {
     match a {
         Ended::Arrived(q) | Ended::Spent(q) => Ok(q),
-        Ended::Refused(q, n) => Err(refuse(n, q.registers.pc as u32)),
+        Ended::Refused(q, cause) => Err(refuse(cause, q.registers.pc as u32)),
     }
 }
 
@@ -35,7 +35,7 @@ fn ran(a: Ended) -> Ran
     match a {
         Ended::Arrived(q) => Ran::Home(q),
         Ended::Spent(q) => Ran::Spent(q),
-        Ended::Refused(q, n) => Ran::Refused(q, refuse(n, q.registers.pc as u32)),
+        Ended::Refused(q, cause) => Ran::Refused(q, refuse(cause, q.registers.pc as u32)),
     }
 }
 
@@ -46,7 +46,7 @@ pub fn step(r: Registers, mem: &mut [u8]) -> Stepped
         × (mem.new ≡ (step_of r mem.old).memory) }
 {
     let Some(memory) = mem.as_mut_array() else {
-        return Err(refuse(21, 0));
+        return Err(refuse(Cause::BadLength, 0));
     };
     stepped(run_until(r, memory, 255, None))
 }
@@ -62,7 +62,7 @@ pub fn run(r: Registers, mem: &mut [u8], env: Environment, budget: u32) -> Ran
         cycles: Cycles(0),
     };
     let Some(memory) = mem.as_mut_array() else {
-        return Ran::Refused(start, refuse(21, 0));
+        return Ran::Refused(start, refuse(Cause::BadLength, 0));
     };
     if r.pc == env.home {
         return Ran::Home(start);

@@ -7,6 +7,7 @@ ghost use Rattle.memory.specs.Memory.{byte_at};
 ghost use Rattle.opcodes.specs.inner.Lookup.{found_of};
 ghost use Rattle.stepper.specs.inner.Until.{ended_of, ends_loop, until_of};
 
+use answers::Cause;
 use crate::answer::Reached;
 use dispatch::{execute, waits};
 use memory::{Memory, byte_at};
@@ -14,12 +15,12 @@ use opcodes::lookup::{Found, found_of, mode_number_at, number_at};
 use registers::word::{smaller, wrapping_add};
 use registers::{Cycles, Registers};
 
-// How the loop ends. A refusal is its number: its place, which is PC, would cost the loop a register.
+// How the loop ends. A refusal is its cause: its place, which is PC, would cost the loop a register.
 #[derive(Clone, Copy)]
 pub enum Ended {
     Arrived(Reached),
     Spent(Reached),
-    Refused(Reached, u8),
+    Refused(Reached, Cause),
 }
 
 fn reached(registers: Registers, spent: u32) -> Reached
@@ -63,11 +64,11 @@ pub fn run_until(r: Registers, mem: &mut Memory, budget: u32, home: Option<u16>)
         let held = q.with_lowest(lowest);
         let pc = held.pc;
         let Some(Found { place, size, cost }) = find(mem, pc) else {
-            return Ended::Refused(reached(held, budget - left), 22);
+            return Ended::Refused(reached(held, budget - left), Cause::NoInstruction);
         };
         let n = number_at(place);
         if waits(n) {
-            return Ended::Refused(reached(held, budget - left), 23);
+            return Ended::Refused(reached(held, budget - left), Cause::Waits);
         }
         let k = cost % 256;
         if left < k {

@@ -5,6 +5,7 @@ use Rattle.std.specs.Prelude.{ℕ, List, ◌++◌, Ok, Err}
 use Rattle.answers.specs.Verdict.{Verdict}
 use Rattle.lists.specs.Ascii.{ascii}
 use Rattle.text.specs.Number.{hex_of, decimal_of}
+use Rattle.answers.specs.Cause.{number_of}
 
 abbrev pub accept : List ℕ
 accept = ascii "ACCEPT "
@@ -26,4 +27,4 @@ refuse_line n p = refuse ++ (decimal_of n ++ (space ++ (decimal_of p ++ end)))
 
 abbrev pub line_of : Verdict → List ℕ
 line_of (Ok a) = accept_line a.entry a.cost.0 a.stack.0
-line_of (Err r) = refuse_line r.number r.place
+line_of (Err r) = refuse_line (number_of r.cause) r.place

@@ -2,6 +2,7 @@
 ghost use Rattle.std.specs.Prelude.{◌≡◌, ◌≤◌, length};
 ghost use Rattle.lists.specs.Splice.{spliced};
 ghost use Rattle.text.specs.Verdict.{accept_line, refuse_line, line_of};
+ghost use Rattle.answers.specs.Cause.{number_of};
 
 use crate::line::Line;
 use crate::number::{hex4, put_text};
@@ -21,10 +22,10 @@ fn accepted(a: Acceptance) -> Line
 
 #[tactic(auto, unfolding(crate::specs::Verdict::refuse_line, crate::specs::Line::field_text))]
 fn refused(x: Refusal) -> Line
-    ensures { result ≡ refuse_line x.number x.place }
+    ensures { result ≡ refuse_line (number_of x.cause) x.place }
 {
     Line::empty()
-        .with_field(b"REFUSE ", u32::from(x.number))
+        .with_field(b"REFUSE ", u32::from(x.cause.number()))
         .with_field(b" ", x.place)
         .with_text(b"\n")
 }

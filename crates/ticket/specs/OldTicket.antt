@@ -18,7 +18,7 @@ use Rattle.ticket.specs.RoundTrip.{AllFit}
 
 -- what stands from an offset on stands some bytes later, and so does the place of a refusal there
 abbrev pub moved_place : (from bytes : ℕ) → Refusal → Refusal
-moved_place from n r = refusal r.number (cond (ltb r.place from) r.place (r.place + n))
+moved_place from n r = refusal r.cause (cond (ltb r.place from) r.place (r.place + n))
 
 abbrev pub moved : (from bytes : ℕ) → ReadOutcome → ReadOutcome
 moved from n (read f) = read f

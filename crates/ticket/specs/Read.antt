@@ -13,9 +13,11 @@ use Rattle.commands.specs.Progress.{initial_progress, ended}
 use Rattle.commands.specs.Admit.{admit_of}
 use Rattle.ticket.specs.declared.fields.Mark.{Mark}
 use Rattle.ticket.specs.Fields.{ReadOutcome, read, refused, marks_with, in_file_order}
+use Rattle.answers.specs.declared.Cause.{Cause}
+use Rattle.answers.specs.declared.Cause.TheVariants.{UnknownCommand, TicketCut, AfterEnd}
 
-abbrev pub refusal : ℕ → ℕ → Refusal
-refusal n p = record { number = n; place = p }
+abbrev pub refusal : Cause → ℕ → Refusal
+refusal c p = record { cause = c; place = p }
 
 -- a command that is read, with what it leaves for the next, or why none is
 abbrev pub NextCommand : Type 0
@@ -27,8 +29,8 @@ admitted_as (Ok q) c = Ok (q, c)
 
 -- 1: unknown command byte; 2: no command byte left, or operands cut short; then 3 to 7 and 29
 abbrev pub parsed_as : Result Command ParseError → Progress → NextCommand
-parsed_as (Err Unknown) p = Err (refusal 1 p.at)
-parsed_as (Err Cut) p = Err (refusal 2 p.at)
+parsed_as (Err Unknown) p = Err (refusal UnknownCommand p.at)
+parsed_as (Err Cut) p = Err (refusal TicketCut p.at)
 parsed_as (Ok c) p = admitted_as (admit_of p c) c
 
 -- the command that the bytes left begin with
@@ -38,7 +40,7 @@ next_command_of s p = parsed_as (parse_of s) p
 -- after the end. 8: bytes after the end
 abbrev pub end_of : Progress → List Mark → List ℕ → ReadOutcome
 end_of p ms [] = read (record { header = p.header; marks = in_file_order ms })
-end_of p ms (b ∷ s) = refused (refusal 8 p.at)
+end_of p ms (b ∷ s) = refused (refusal AfterEnd p.at)
 
 -- what is left to do, from what the commands so far leave, their marks, the latest first, and the bytes left
 abbrev pub ReadRest : Type 0
@@ -54,7 +56,7 @@ if_ended false p ms s f = read_onward (next_command_of s p) ms s f
 
 -- at most n turns
 unfoldable pub read_from : ℕ → Progress → List Mark → List ℕ → ReadOutcome
-read_from zero p ms s = refused (refusal 2 p.at)
+read_from zero p ms s = refused (refusal TicketCut p.at)
 read_from (suc n) p ms s = if_ended (ended p) p ms s (λ q ks t. read_from n q ks t)
 
 -- every command has a byte or more, so one turn more than there are bytes is enough

@@ -12,6 +12,7 @@ use Rattle.commands.specs.Progress.{initial_progress}
 use Rattle.commands.specs.Admit.{then_of}
 use Rattle.ticket.specs.declared.fields.Mark.{Mark}
 use Rattle.ticket.specs.Fields.{Fields}
+use Rattle.answers.specs.declared.Cause.TheVariants.{OutputTooSmall}
 
 abbrev pub mark_command : Mark → Command
 mark_command m = Command.Mark m.address m.claim
@@ -42,7 +43,7 @@ check_of f = all_then (Ok initial_progress) (commands_of f)
 -- n bytes are needed
 abbrev pub written_if : Result Progress Refusal → ℕ → ℕ → Result ℕ Refusal
 written_if (Err r) n room = Err r
-written_if (Ok p) n room = cond (leb n room) (Ok n) (Err (record { number = 24; place = n }))
+written_if (Ok p) n room = cond (leb n room) (Ok n) (Err (record { cause = OutputTooSmall; place = n }))
 
 unfoldable pub write_of : Fields → ℕ → Result ℕ Refusal
 write_of f room = written_if (check_of f) (length (bytes_of f)) room

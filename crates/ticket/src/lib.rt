@@ -13,7 +13,7 @@ ghost use Rattle.ticket.specs.Names.{NamesIgnored};
 use crate::fields::{Mark, Ticket, blank};
 use crate::reader::next_command;
 use crate::writer::{check, put};
-use answers::{Refusal, refuse};
+use answers::{Cause, Refusal, refuse};
 use commands::command::Command;
 use commands::progress::{ended, initial};
 
@@ -40,7 +40,7 @@ pub fn read(bytes: &[u8]) -> Result<Ticket, Refusal>
         p = q;
     }
     if (p.at as usize) < bytes.len() {
-        return Err(refuse(8, p.at));
+        return Err(refuse(Cause::AfterEnd, p.at));
     }
     Ok(Ticket {
         header: p.header,
@@ -59,7 +59,7 @@ pub fn write(t: &Ticket, out: &mut [u8]) -> Result<u32, Refusal>
 {
     let n = check(t)?.at;
     if out.len() < (n as usize) {
-        return Err(refuse(24, n));
+        return Err(refuse(Cause::OutputTooSmall, n));
     }
     put(t, out);
     Ok(n)

@@ -4,7 +4,7 @@ ghost use Rattle.std.specs.Prelude.{◌≡◌, ◌-◌, ◌≤◌, length, drop}
 ghost use Rattle.commands.specs.inner.Sound.{Sound};
 ghost use Rattle.ticket.specs.Read.{next_command_of};
 
-use answers::{Refusal, refuse};
+use answers::{Cause, Refusal, refuse};
 use commands::admit::admit;
 use commands::command::Command;
 use commands::parse::{ParseError, parse};
@@ -17,8 +17,8 @@ pub fn next_command(bytes: &[u8], p: Progress) -> Result<(Progress, Command), Re
 {
     let at = p.at as usize;
     match parse(&bytes[at..]) {
-        Err(ParseError::Unknown) => Err(refuse(1, p.at)),
-        Err(ParseError::Cut) => Err(refuse(2, p.at)),
+        Err(ParseError::Unknown) => Err(refuse(Cause::UnknownCommand, p.at)),
+        Err(ParseError::Cut) => Err(refuse(Cause::TicketCut, p.at)),
         Ok(c) => Ok((admit(p, c)?, c)),
     }
 }

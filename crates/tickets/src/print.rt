@@ -4,7 +4,7 @@ use output::{decimal, text};
 
 // Document 01's number and place.
 pub fn refusal(rt: &impl Print, r: Refusal) {
-    decimal(rt, r.number as u64);
+    decimal(rt, r.cause.number() as u64);
     text(rt, b" at ");
     decimal(rt, r.place as u64);
 }

@@ -57,7 +57,7 @@ fn judge_records(rt: &impl Print, o: Options, ticket: &[u8], file: &[u8], mem: &
     let image = &mut space[..n];
     match verdict_of_records(ticket, file, image) {
         Ok(a) => accepted(rt, o, ticket, image, mem, a),
-        Err(x) if of_file(x.number) => refused_file(rt, x, ticket, file),
+        Err(x) if of_file(x.cause) => refused_file(rt, x, ticket, file),
         Err(x) => refused(rt, x, ticket, image),
     }
 }

@@ -1,6 +1,6 @@
 // The places of the opcode maps: which of them hold an instruction, and how many vectors each has.
 use crate::loaded::background;
-use answers::Refusal;
+use answers::{Cause, Refusal};
 use check::same;
 use memory::put_byte;
 use output::{counted, decimal, text};
@@ -17,10 +17,10 @@ enum Stands {
 }
 
 fn refused(x: Refusal, kept: bool) -> Stands {
-    match x.number {
+    match x.cause {
         _ if !kept | (x.place != 0x8000) => Stands::Wrong,
-        22 => Stands::Empty,
-        23 => Stands::Waits,
+        Cause::NoInstruction => Stands::Empty,
+        Cause::Waits => Stands::Waits,
         _ => Stands::Wrong,
     }
 }

@@ -34,7 +34,7 @@ fn answered(rt: &impl Print, a: Stepped) {
         Ok(r) => outcome(rt, r),
         Err(x) => {
             text(rt, b"refused ");
-            decimal(rt, x.number as u64);
+            decimal(rt, x.cause.number() as u64);
             text(rt, b"\n");
         }
     }

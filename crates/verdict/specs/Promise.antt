@@ -7,6 +7,7 @@ use Rattle.ticket.specs.Rules.{Between}
 use Rattle.rules.specs.Rules.{Certified}
 use Rattle.rules.specs.Checks.{verdict_of}
 use Rattle.rules.specs.Claim.{Demand3}
+use Rattle.answers.specs.Cause.{number_of}
 
 -- demand 2: it accepts if and only if every ticket rule holds
 abbrev pub AcceptsExactly : List ℕ → List ℕ → Type 0
@@ -25,7 +26,7 @@ VerdictNumber n = Between 1 20 n ⊎ (n ≡ 29)
 
 -- a refusal has one of them; so 0 can stand for acceptance
 abbrev pub RefusalsNumbered : List ℕ → List ℕ → Type 0
-RefusalsNumbered ticket image = (r : Refusal) → verdict_of ticket image ≡ Err r → VerdictNumber r.number
+RefusalsNumbered ticket image = (r : Refusal) → verdict_of ticket image ≡ Err r → VerdictNumber (number_of r.cause)
 
 abbrev pub Promised : List ℕ → List ℕ → Type 0
 Promised ticket image = AcceptsExactly ticket image × AcceptedComesHome ticket image × RefusalsNumbered ticket image

@@ -15,6 +15,7 @@ use Rattle.records.specs.Load.{AfterLoad, load_of}
 use Rattle.rules.specs.Rules.{Certified}
 use Rattle.rules.specs.Claim.{Demand3}
 use Rattle.rules.specs.Checks.{verdict_on, verdict_of}
+use Rattle.answers.specs.Cause.{number_of}
 
 -- the answer and the image buffer afterwards
 pub record AfterVerdict : Type 0 where
@@ -87,14 +88,14 @@ FileComesHome ticket file buffer =
 abbrev pub FileRefusedExactly : List ℕ → List ℕ → List ℕ → Type 0
 FileRefusedExactly ticket file buffer =
     (f : Fields) → read_of ticket ≡ read f
-    → ((r : Refusal) × ((records_verdict_of ticket file buffer).answer ≡ Err r) × Between 25 27 r.number)
+    → ((r : Refusal) × ((records_verdict_of ticket file buffer).answer ≡ Err r) × Between 25 27 (number_of r.cause))
     ↔ ((image : List ℕ) → Names f.header.code file image → ⊥)
 
 -- a refusal's number is the verdict's, or 25 to 27
 abbrev pub FileRefusalsNumbered : List ℕ → List ℕ → List ℕ → Type 0
 FileRefusalsNumbered ticket file buffer =
     (r : Refusal) → (records_verdict_of ticket file buffer).answer ≡ Err r
-    → VerdictNumber r.number ⊎ Between 25 27 r.number
+    → VerdictNumber (number_of r.cause) ⊎ Between 25 27 (number_of r.cause)
 
 abbrev pub FilePromised : List ℕ → List ℕ → List ℕ → Type 0
 FilePromised ticket file buffer =

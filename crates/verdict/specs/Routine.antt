@@ -13,6 +13,7 @@ use Rattle.verdict.specs.Start.{Started, started_of, loaded_of}
 use Rattle.verdict.specs.Certification.{Certification, certification_of}
 use Rattle.verdict.specs.declared.Certificate.{Certificate}
 use Rattle.verdict.specs.declared.started.Start.{Start}
+use Rattle.answers.specs.declared.Cause.TheVariants.{BadLength}
 
 -- the answer and the memory afterwards
 pub record AfterStart : Type 0 where
@@ -31,7 +32,7 @@ start_routine_by (Ok c) d image m =
 unfoldable pub start_routine_of : List ℕ → List ℕ → Data → List ℕ → AfterStart
 start_routine_of ticket image d m =
     cond (eqb (length m) 65536) (start_routine_by (certification_of ticket image) d image m)
-    (after_start (Err (refusal 21 0)) m)
+    (after_start (Err (refusal BadLength 0)) m)
 
 -- from the registers and the memory that are answered, the routine comes to the home that is answered, which is the
 -- ticket's

@@ -14,6 +14,7 @@ use Rattle.rules.specs.Rules.{Accepted}
 use Rattle.rules.specs.Claim.{top_of, Loaded}
 use Rattle.answers.specs.declared.Refusal.{Refusal}
 use Rattle.verdict.specs.declared.started.Start.{Start}
+use Rattle.answers.specs.declared.Cause.TheVariants.{BadImage, BadLength}
 
 -- where a routine starts, or a refusal
 abbrev pub Started : Type 0
@@ -38,7 +39,7 @@ by_size h image m a_21 a_9 a = cond (eqb (length m) 65536) (cond (eqb (length im
 
 unfoldable pub started_of : Header → Data → List ℕ → List ℕ → Started
 started_of h d image m =
-    by_size h image m (Err (refusal 21 0)) (Err (refusal 9 0))
+    by_size h image m (Err (refusal BadLength 0)) (Err (refusal BadImage 0))
     (Ok (record { registers = start_of d h.entry (last_of h.stack); home = h.home }))
 
 -- a refusal leaves every byte

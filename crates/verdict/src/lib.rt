@@ -12,7 +12,7 @@ ghost use Rattle.verdict.specs.Routine.{after_start, start_routine_of, StartedCo
 
 use crate::load::{fill, last_of, store_home};
 pub use crate::started::{Start, Started};
-use answers::{Acceptance, Refusal, Verdict, refuse};
+use answers::{Acceptance, Cause, Refusal, Verdict, refuse};
 use checks::verdict::verdict_on;
 use commands::header::Header;
 use records::load_image;
@@ -78,10 +78,10 @@ pub fn start(h: Header, image: &[u8], d: Data, memory: &mut [u8]) -> Started
         × StartsAsClaimed h d image.now memory.old }
 {
     let Some(whole) = memory.as_mut_array() else {
-        return Err(refuse(21, 0));
+        return Err(refuse(Cause::BadLength, 0));
     };
     if image.len() != (h.code.length as usize) {
-        return Err(refuse(9, 0));
+        return Err(refuse(Cause::BadImage, 0));
     }
     let top = last_of(h.stack);
     fill(h.code.start, image, whole);
@@ -99,7 +99,7 @@ pub fn start_routine(ticket: &[u8], image: &[u8], d: Data, memory: &mut [u8]) ->
         memory.old) × StartedComesHome ticket.now image.now d memory.old }
 {
     if memory.len() != 65536 {
-        return Err(refuse(21, 0));
+        return Err(refuse(Cause::BadLength, 0));
     }
     let c = certify(ticket, image)?;
     start(c.header, image, d, memory)

@@ -22,6 +22,9 @@ use Rattle.checks.specs.declared.shape.Call.{Call}
 use Rattle.checks.specs.declared.shape.Shape.{Shape}
 use Rattle.checks.specs.declared.shape.Shape.TheVariants as Shape
 use Rattle.checks.specs.inner.Said.{ordinary_said}
+use Rattle.answers.specs.declared.Cause.{Cause}
+use Rattle.answers.specs.declared.Cause.TheVariants.{BadMark, KeptOut, WritesOutside, BadPull, NotMarked}
+use Rattle.answers.specs.declared.Cause.TheVariants.{DepthsDisagree, CostTooLow, NeedTooLow}
 
 abbrev pub in_data : Window → Writes → Bool
 in_data w Nowhere = true
@@ -38,54 +41,57 @@ abbrev pub claims_in : List Mark → Successors → Option (Claim × Claim)
 claims_in ms (One a) = both (claim_at ms a) (claim_at ms a)
 claims_in ms (Two a b) = both (claim_at ms a) (claim_at ms b)
 
-abbrev pub follows_of : Claim → Ordinary → Claim → Claim → ℕ
+abbrev pub follows_of : Claim → Ordinary → Claim → Claim → Result Unit Cause
 follows_of k o x y =
     cond (depth_agrees k (ordinary_said o) x && depth_agrees k (ordinary_said o) y)
     (cond (cost_covers k o.cycles.0 x && cost_covers k o.cycles.0 y)
-    (cond (need_covers k (ordinary_said o) x && need_covers k (ordinary_said o) y) 0 17)
-    16)
-    15
+    (cond (need_covers k (ordinary_said o) x && need_covers k (ordinary_said o) y) (Ok tt) (Err NeedTooLow))
+    (Err CostTooLow))
+    (Err DepthsDisagree)
 
 -- 14 unless there are claims at both successors
-abbrev pub if_claimed : Option (Claim × Claim) → (Claim → Claim → ℕ) → ℕ
-if_claimed None f = 14
+abbrev pub if_claimed : Option (Claim × Claim) → (Claim → Claim → Result Unit Cause) → Result Unit Cause
+if_claimed None f = Err NotMarked
 if_claimed (Some b) f = f b.0 b.1
 
-abbrev pub ordinary_of : Window → List Mark → Claim → Ordinary → ℕ
+abbrev pub ordinary_of : Window → List Mark → Claim → Ordinary → Result Unit Cause
 ordinary_of w ms k o =
     cond (in_data w o.writes)
-    (cond (leb o.pulled.0 k.depth.0) (if_claimed (claims_in ms o.next) (follows_of k o)) 13)
-    12
+    (cond (leb o.pulled.0 k.depth.0) (if_claimed (claims_in ms o.next) (follows_of k o)) (Err BadPull))
+    (Err WritesOutside)
 
-abbrev pub called_of : Claim → ℕ → Claim → Claim → ℕ
+abbrev pub called_of : Claim → ℕ → Claim → Claim → Result Unit Cause
 called_of k cycles x y =
     cond (has_depth 0 x && has_depth k.depth.0 y)
-    (cond (cost_covers_call k cycles x y) (cond (need_covers_target k x && need_covers_after k y) 0 17) 16)
-    15
+    (cond (cost_covers_call k cycles x y)
+    (cond (need_covers_target k x && need_covers_after k y) (Ok tt) (Err NeedTooLow))
+    (Err CostTooLow))
+    (Err DepthsDisagree)
 
-abbrev pub call_of : List Mark → Claim → Call → ℕ
+abbrev pub call_of : List Mark → Claim → Call → Result Unit Cause
 call_of ms k c = if_claimed (claims_in ms (Two c.target c.after)) (called_of k c.cycles.0)
 
-abbrev pub return_of : Claim → ℕ → ℕ
-return_of k cycles = cond (eqb k.depth.0 0) (cond (leb cycles k.cost.0) 0 16) 13
+abbrev pub return_of : Claim → ℕ → Result Unit Cause
+return_of k cycles = cond (eqb k.depth.0 0) (cond (leb cycles k.cost.0) (Ok tt) (Err CostTooLow)) (Err BadPull)
 
 -- with the instruction inside the code window
-abbrev pub inside_of : Window → List Mark → Claim → Shape → ℕ
+abbrev pub inside_of : Window → List Mark → Claim → Shape → Result Unit Cause
 inside_of w ms k (Shape.Ordinary o) = ordinary_of w ms k o
 inside_of w ms k (Shape.Call c) = call_of ms k c
 inside_of w ms k (Shape.Return cycles) = return_of k cycles.0
-inside_of w ms k Shape.Forbidden = 11
-inside_of w ms k Shape.Nothing = 10
+inside_of w ms k Shape.Forbidden = Err KeptOut
+inside_of w ms k Shape.Nothing = Err BadMark
 
-unfoldable pub mark_cause_of : Window → List Mark → Claim → Shape → Bool → ℕ
-mark_cause_of w ms k s inside = cond inside (inside_of w ms k s) 10
+unfoldable pub mark_cause_of : Window → List Mark → Claim → Shape → Bool → Result Unit Cause
+mark_cause_of w ms k s inside = cond inside (inside_of w ms k s) (Err BadMark)
 
--- what follows a cause: the rest where it is 0, or a refusal with it
-abbrev pub cause_then : ℕ → ℕ → Verdict → Verdict
-cause_then n place v = cond (eqb n 0) v (Err (refusal n place))
+-- what follows: the rest, or a refusal with the cause
+abbrev pub cause_then : Result Unit Cause → ℕ → Verdict → Verdict
+cause_then (Ok t) place v = v
+cause_then (Err c) place v = Err (refusal c place)
 
--- of the checks at a mark, n is the first that fails, or 0
-abbrev pub CauseIs : Fields → List ℕ → Mark → ℕ → Type 0
-CauseIs f image m n =
+-- of the checks at a mark, r has the cause of the first that fails
+abbrev pub CauseIs : Fields → List ℕ → Mark → Result Unit Cause → Type 0
+CauseIs f image m r =
     (cs : List Check) (v : Verdict)
-    → first_failing (checks_at f image m ++ cs) v ≡ cause_then n m.address (first_failing cs v)
+    → first_failing (checks_at f image m ++ cs) v ≡ cause_then r m.address (first_failing cs v)

@@ -5,6 +5,7 @@ use Rattle.commands.specs.declared.command.Claim.{Claim}
 use Rattle.commands.specs.declared.header.Header.{Header}
 use Rattle.ticket.specs.Read.{refusal}
 use Rattle.answers.specs.Verdict.{Verdict}
+use Rattle.answers.specs.declared.Cause.TheVariants.{BadEntry, OverLimit, StackTooSmall}
 
 abbrev pub at_entry_of : Header → Claim → Verdict
 at_entry_of h c =
@@ -12,10 +13,10 @@ at_entry_of h c =
     (cond (leb c.cost.0 h.limit.0)
     (cond (leb (c.need.0 + 2) h.stack.length)
     (Ok (record { entry = h.entry; cost = c.cost; stack = record { 0 = c.need.0 + 2 } }))
-    (Err (refusal 20 h.entry)))
-    (Err (refusal 19 h.entry)))
-    (Err (refusal 18 h.entry))
+    (Err (refusal StackTooSmall h.entry)))
+    (Err (refusal OverLimit h.entry)))
+    (Err (refusal BadEntry h.entry))
 
 abbrev pub whole_of : Header → Option Claim → Verdict
-whole_of h None = Err (refusal 18 h.entry)
+whole_of h None = Err (refusal BadEntry h.entry)
 whole_of h (Some c) = at_entry_of h c

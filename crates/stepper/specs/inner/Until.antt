@@ -8,6 +8,7 @@ use Rattle.stepper.specs.Answer.{Answer, done, refused}
 use Rattle.stepper.specs.Answer.{RunAnswer, home as run_home, spent, refused as run_refused}
 use Rattle.stepper.specs.Step.{After}
 use Rattle.stepper.specs.Run.{AfterRun, turn}
+use Rattle.answers.specs.Cause.{number_of}
 
 -- a step that is done
 abbrev pub after_done : Registers → ℕ → List ℕ → After
@@ -35,7 +36,7 @@ until_of home r m b = next_from home b b 0 r m
 abbrev pub ended_of : Ended → RunAnswer
 ended_of (Ended.Arrived q) = run_home q.registers q.cycles
 ended_of (Ended.Spent q) = spent q.registers q.cycles
-ended_of (Ended.Refused q n) = run_refused n q.registers.pc q.registers q.cycles
+ended_of (Ended.Refused q c) = run_refused (number_of c) q.registers.pc q.registers q.cycles
 
 -- the answer of a step by that of the loop
 abbrev pub as_step : RunAnswer → Answer
