@@ -1,35 +1,15 @@
--- The byte of the condition codes, where some of them are changed: the kept bits are parts of the byte as it was.
+-- The byte of the condition codes, where some of them are changed and then others.
 -- Assumes nothing.
 use mathlib.Core.Path.{◌≡◌, ap}
 use mathlib.Core.Bool.{Bool}
-use Prim.Native.Nat.{ℕ, ◌+◌, ◌*◌, ◌/◌, ◌%◌, ◌<◌}
-use native.Mathlib.Omega.{arith}
-use Rattle.registers.proofs.Bits.{digit}
-use Rattle.registers.proofs.FlagsByte.{of_byte, to_byte}
+use Rattle.registers.proofs.FlagsByte.{of_byte}
 use Rattle.registers.specs.declared.flags.Flags.{Flags}
 use Rattle.registers.specs.Flags.{flags_of, byte_of}
-use Rattle.lists.specs.Bit.{one}
 use Rattle.arithmetic.specs.Codes.{with_nzvc, with_hnzvc}
 
 -- H alone changed
 abbrev pub with_h : Flags → Bool → Flags
 with_h f h = with_hnzvc f h f.n f.z f.v f.c
-
-module _ (f : ℕ) (l : f < 256) where
-  pub nzvc_byte : (n z v c : Bool) → byte_of (with_nzvc (flags_of f) n z v c)
-      ≡ f / 16 * 16 + 8 * one n + 4 * one z + 2 * one v + one c
-  nzvc_byte n z v c =
-      omega (
-        arith,
-        to_byte f l,
-        digit (f / 8 % 2) (omega arith),
-        digit (f / 4 % 2) (omega arith),
-        digit (f / 2 % 2) (omega arith),
-        digit (f % 2) (omega arith),
-      )
-
-  pub h_byte : (h : Bool) → byte_of (with_h (flags_of f) h) ≡ f / 64 * 64 + 32 * one h + f % 32
-  h_byte h = omega (arith, to_byte f l, digit (f / 32 % 2) (omega arith))
 
 -- H changed in the byte, and then N, Z, V and C, is all five changed
 pub after_h : (f : Flags) (h n z v c : Bool) → byte_of (with_nzvc (flags_of (byte_of (with_h f h))) n z v c)

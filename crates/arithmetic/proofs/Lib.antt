@@ -4,4 +4,3 @@ pub mod Outcomes
 pub mod Carries
 pub mod Overflow
 pub mod Negation
-pub mod Product

@@ -63,7 +63,7 @@ pub fn lsrd(d: u16, f: u8) -> Coded<u16>
 }
 
 // C is bit 7 of the product.
-#[tactic(auto, unfolding(crate::specs::Word::mul_of), using(crate::proofs::Product::product_fits))]
+#[tactic(auto, unfolding(crate::specs::Word::mul_of))]
 pub fn mul(a: u8, b: u8, f: u8) -> Coded<u16>
     ensures { result ≡ packed (mul_of a b (flags_of f)) }
 {

@@ -42,7 +42,7 @@ pub fn read_lines(code: Window, file: &[u8], cells: &mut Cells) -> Result<(), Re
     let mut rest = file;
     while !rest.is_empty() {
         let (line, others) = rest.split_at(line_length(rest));
-        p = judge(code, p, line, cells).map_err(|number| refused_at(number, p))?;
+        p = judge(code, p, line, cells).map_err(|cause| refused_at(cause, p))?;
         rest = others;
     }
     if !p.ended {

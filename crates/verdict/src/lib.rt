@@ -12,7 +12,7 @@ ghost use Rattle.verdict.specs.Routine.{after_start, start_routine_of, StartedCo
 
 use crate::load::{fill, last_of, store_home};
 pub use crate::started::{Start, Started};
-use answers::{Acceptance, Cause, Refusal, Verdict, refuse};
+use answers::{Cause, Refusal, Verdict, refuse};
 use checks::verdict::verdict_on;
 use commands::header::Header;
 use records::load_image;
@@ -54,8 +54,7 @@ pub fn verdict(ticket: &[u8], image: &[u8]) -> Verdict
     ensures { (result ≡ verdict_of ticket.now image.now)
         × Promised ticket.now image.now }
 {
-    let t = read(ticket)?;
-    verdict_on(&t, image)
+    verdict_on(&read(ticket)?, image)
 }
 
 // The verdict on a routine whose image is an S-record file: the first cause of the ticket (1 to 8, 29), of the file (25
@@ -65,9 +64,9 @@ pub fn verdict_of_records(ticket: &[u8], file: &[u8], image: &mut [u8]) -> Verdi
     ensures { (after_verdict result image.new ≡ records_verdict_of ticket.now file.now
         image.old) × FilePromised ticket.now file.now image.old }
 {
-    let t = read(ticket)?;
-    load_image(t.header.code, file, image)?;
-    verdict_on(&t, image)
+    let ticket = read(ticket)?;
+    load_image(ticket.header.code, file, image)?;
+    verdict_on(&ticket, image)
 }
 
 // The start, from the header of an accepted ticket: the image fills the code window and home's two bytes go to the end

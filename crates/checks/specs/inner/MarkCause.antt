@@ -1,6 +1,6 @@
 -- Causes 10 to 17 at a mark as the code computes them: of the rules' checks, the first that fails.
 -- Assumes nothing.
-use Rattle.std.specs.Prelude.{ℕ, ◌≡◌, Bool, true, cond, ◌&&◌, List, ◌++◌, eqb, leb, Option, Some, None, Err}
+use Rattle.std.specs.Prelude.{ℕ, ◌≡◌, Bool, true, cond, ◌&&◌, List, ◌++◌, eqb, leb, Option, Some, None, Result, Ok, Err}
 use Rattle.registers.specs.Word.{wrapping_add}
 use Rattle.commands.specs.Header.{holds}
 use Rattle.commands.specs.declared.command.Claim.{Claim}
