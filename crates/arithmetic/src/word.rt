@@ -1,4 +1,5 @@
-// The operations on words, with their condition codes.
+// The operations on words, with their condition codes. `logic16` and `shifted` are byte.rt's at another width: one
+// function for both needs a trait of sign and zero, with a ghost view for each width, and is no plainer.
 ghost use Rattle.std.specs.Prelude.{◌≡◌};
 ghost use Rattle.registers.specs.Flags.{flags_of, byte_of};
 ghost use Rattle.arithmetic.specs.inner.Packed.{packed};

@@ -197,10 +197,6 @@ module _ (b : ℕ) (row : CodeRow) (e : row ≡ code_row (row_of b)) where
   pub row_four : length row.operands ≡ 4
   row_four = rw e (length_padded 4 (layout_of b))
 
-  -- no row has more than ten bytes of operands
-  pub row_small : code_size row.operands ≤ 10
-  row_small = rw row_sizes (row_size b)
-
   pub row_values : (s : List ℕ) → values_in row.operands s ≡ code_values (operands_in (layout_of b) s)
   row_values s = rw (e, four) (values_padded 4 (layout_of b) s (row_short b))
 

@@ -45,6 +45,7 @@ impl Header {
 }
 
 // The first address past a window. It is more than 65,536 where the window runs past $FFFF.
+// This and `holds` are no methods: what other crates promise speaks of the two words.
 pub fn past(w: Window) -> u32
     ensures { result ≡ past_of w }
 {

@@ -1,6 +1,6 @@
 // The loop that a step and a run share: a step is one turn of it. A turn finds the next instruction and decides there
 // whether it is refused, passes the budget or is done: a function for a turn, whose answer held the registers, would
-// send them through memory at every turn. An inner module of `step` and `run`, which have tested the memory's length.
+// send them through memory at every turn. An inner module of `step` and `run`.
 ghost use Rattle.std.specs.Prelude.{◌≡◌, ◌<◌, IfSome};
 ghost use Rattle.registers.specs.Word.{wrapping_add};
 ghost use Rattle.memory.specs.Memory.{byte_at};

@@ -12,8 +12,7 @@ use Rattle.ticket.specs.RoundTrip.{FitsFields}
 use Rattle.ticket.specs.Rules.{Readable, ReadByTheRules}
 use Rattle.ticket.proofs.Fitting.{fit_stated}
 use Rattle.ticket.proofs.Free.{free_admitted}
-use Rattle.ticket.proofs.ReadWritten.{read_stated, fit_so_far}
-use Rattle.std.specs.Prelude.{Ok}
+use Rattle.ticket.proofs.ReadWritten.{read_stated}
 use Rattle.ticket.proofs.WrittenRead.{spells_read, fits_read, readable_read}
 use Rattle.ticket.proofs.Readable.{readable_says}
 
@@ -24,7 +23,7 @@ pub rules_read : (s : List ℕ) (f : Fields) → Spells f s → FitsFields f →
 rules_read s f S fits r =
     rw (
       ← S.bytes,
-      read_stated f S.states (fit_so_far (Ok initial_progress) (fit_stated f S.states fits)),
+      read_stated f S.states (fit_stated f S.states fits),
       free_admitted initial_progress S.commands ((readable_says f S.states).1 r),
     )
 

@@ -1,10 +1,8 @@
 -- Commands whose operands fit: one by the ranges of its numbers, and some one after another.
 -- Assumes nothing.
-use Prim.Native.Nat.{ℕ, ◌+◌, ◌<◌}
-use native.Mathlib.Numerals.{add-one}
+use Prim.Native.Nat.{ℕ, ◌<◌}
 use native.Mathlib.Omega.{arith}
 use mathlib.Core.List.{List, [], ◌∷◌, ◌++◌}
-use lib.ListN.{get_or}
 use Rattle.commands.specs.declared.header.Header.{Header}
 use Rattle.commands.specs.declared.command.Command.{Command}
 use Rattle.commands.specs.Every.{none, more}
@@ -12,13 +10,12 @@ use Rattle.commands.specs.Header.{required_commands, header_commands}
 use Rattle.commands.specs.Fits.{Fits}
 use Rattle.commands.specs.Fits.FitsLayout.{none as no_operand, more as operand}
 use Rattle.ticket.specs.declared.fields.Mark.{Mark}
-use Rattle.ticket.specs.Fields.{Fields, blank_mark, mark_index, listed}
+use Rattle.ticket.specs.Fields.{Fields}
 use Rattle.ticket.specs.Write.{mark_command, mark_commands, commands_of}
 use Rattle.ticket.specs.Spells.{StatesHeader, NameText, StatesMarks, States, stated}
 use Rattle.ticket.specs.Spells.StatesHeader.{whole, homeless}
 use Rattle.ticket.specs.Spells.{StatesMarks as Marks}
 use Rattle.ticket.specs.RoundTrip.{AllFit, FitsFields}
-use Rattle.ticket.proofs.Snoc.{commands_snoc}
 
 pub fits_mark : (m : Mark) → m.address < 65536 → m.claim.cost.0 < 4294967296 → m.claim.depth.0 < 65536 →
     m.claim.need.0 < 65536 → Fits (mark_command m)
@@ -32,10 +29,6 @@ fit_append (more fit more_fit) fits = more fit (fit_append more_fit fits)
 fit_parts : (cs ds : List Command) → AllFit (cs ++ ds) → AllFit cs × AllFit ds
 fit_parts [] ds fits = (none, fits)
 fit_parts (c ∷ cs) ds (more fit fits) = let p = fit_parts cs ds fits in (more fit p.0, p.1)
-
-pub fit_listed : (ms : List Mark) (i : ℕ) → AllFit (mark_commands (listed ms i)) →
-    Fits (mark_command (get_or ms (mark_index i) blank_mark)) → AllFit (mark_commands (listed ms (i + 1)))
-fit_listed ms i fits fit = rw (add-one, commands_snoc) (fit_append fits (more fit none))
 
 pub fit_ticket : (f : Fields) → AllFit (header_commands f.header) → AllFit (mark_commands f.marks) → FitsFields f
 unfolding commands_of

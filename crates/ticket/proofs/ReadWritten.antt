@@ -24,7 +24,7 @@ use Rattle.ticket.specs.Write.{encode_all, bytes_of, commands_of, all_then, chec
 use Rattle.ticket.specs.Spells.{StatesHeader, StatesMarks, States, stated}
 use Rattle.ticket.specs.Spells.StatesHeader.{whole, homeless}
 use Rattle.ticket.specs.Spells.{StatesMarks as Marks}
-use Rattle.ticket.specs.RoundTrip.{AllFit, answered}
+use Rattle.ticket.specs.RoundTrip.{AllFit, FitsFields, answered}
 use Rattle.ticket.specs.inner.FitSoFar.{FitSoFar}
 use Rattle.ticket.proofs.Stage.{ends, stage_after}
 use Rattle.ticket.proofs.Step.{step}
@@ -79,7 +79,7 @@ pub nothing_left : (a : Result Progress Refusal) → FitSoFar a []
 nothing_left (Err r) = tt
 nothing_left (Ok p) = tt
 
-pub fit_so_far : (a : Result Progress Refusal) {cs : List Command} → AllFit cs → FitSoFar a cs
+fit_so_far : (a : Result Progress Refusal) {cs : List Command} → AllFit cs → FitSoFar a cs
 fit_so_far a {cs} fits = rw append-nil at (fit_then a [] fits (nothing_left (all_then a cs)))
 
 -- every command has a byte or more, so more turns than bytes are enough
@@ -95,15 +95,24 @@ read_all (suc n) p ms (before {c} {cs} d) fits e l =
     (kept_of (header_after p.header c) (marks_with ms c) cs)) (λ r. rw refused_stays)
     (λ f. rw (← header_of_after p c) (read_all n _ _ d f (stage_after p c) (shorter c _ n l))) fits.1
 
-pub read_stated : (f : Fields) {cs : List Command} → States f cs → FitSoFar (Ok initial_progress) cs
-    → read_of (encode_all cs)
-    ≡ answered (all_then (Ok initial_progress) cs) f
+-- of commands that fit as far as they are admitted
+read_by_checks : (f : Fields) {cs : List Command} → States f cs → FitSoFar (Ok initial_progress) cs
+    → read_of (encode_all cs) ≡ answered (all_then (Ok initial_progress) cs) f
 unfolding read_of
-read_stated f {cs} S fits =
+read_by_checks f {cs} S fits =
     read_all _ initial_progress [] (closed S) fits refl (omega arith)
     ∙ ap (answered (all_then (Ok initial_progress) cs)) (kept f S)
 
-pub read_written : (f : Fields) → FitSoFar (Ok initial_progress) (commands_of f)
+pub read_checked : (f : Fields) → FitSoFar (Ok initial_progress) (commands_of f)
     → read_of (bytes_of f) ≡ answered (check_of f) f
+unfolding bytes_of check_of
+read_checked f fits = read_by_checks f (own f) fits
+
+-- and of commands that all fit
+pub read_stated : (f : Fields) {cs : List Command} → States f cs → AllFit cs → read_of (encode_all cs)
+    ≡ answered (all_then (Ok initial_progress) cs) f
+read_stated f S fits = read_by_checks f S (fit_so_far (Ok initial_progress) fits)
+
+pub read_written : (f : Fields) → FitsFields f → read_of (bytes_of f) ≡ answered (check_of f) f
 unfolding bytes_of check_of
 read_written f fits = read_stated f (own f) fits

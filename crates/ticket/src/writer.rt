@@ -75,6 +75,7 @@ pub fn put(t: &Ticket, out: &mut [u8])
     ensures { out.new ≡ spliced out.old 0 (bytes_of (fields_of t.now)) }
 {
     let mut at = put_all(&header_commands(t.header), out, 0);
+    // By index, as in `check`.
     for i in 0..t.count {
         at = put_command(mark_command(t.marks[mark_index(i)]), out, at);
     }

@@ -5,7 +5,7 @@ use mathlib.Core.Path.{sym, ◌∙◌}
 use native.Mathlib.Omega.{arith}
 use Rattle.std.proofs.lemmas.Result.{err_from_is_err_and}
 use Rattle.ticket.specs.Fields.{fields_of}
-use Rattle.ticket.proofs.ReadWritten.{read_written}
+use Rattle.ticket.proofs.ReadWritten.{read_checked}
 use Rattle.ticket.proofs.Checks.{checked_at, write_refused, write_short, write_whole}
 use Rattle.ticket.proofs.write.Goals as goal
 
@@ -14,14 +14,14 @@ returns-in_err-n c =
     let a = c.args in
     let p = err_from_is_err_and c.from_residual.result c.from_residual.ensures.1 in
     let w = write_refused (fields_of a.t.now) a.out.now _ (sym c.check.ensures.0 ∙ c.in_err-n.was) in
-    rw (p.1, p.2) (w.0, w.1, read_written _ c.check.ensures.1)
+    rw (p.1, p.2) (w.0, w.1, read_checked _ c.check.ensures.1)
 
 pub returns-then-out-n : goal.returns-then-out-n
 returns-then-out-n c =
     let a = c.args in
     let checked = sym c.check.ensures.0 ∙ c.in_ok-n.was in
     let w = write_short (fields_of a.t.now) a.out.now c.in_ok-n.field-0 checked c.if-out-n.true in
-    (rw c.refuse.ensures w.0, w.1, read_written _ c.check.ensures.1)
+    (rw c.refuse.ensures w.0, w.1, read_checked _ c.check.ensures.1)
 
 pub put-requires : goal.put-requires
 put-requires c = omega (arith, checked_at _ _ (sym c.check.ensures.0 ∙ c.in_ok-n.was), c.if-out-n.false)
@@ -31,4 +31,4 @@ returns c =
     let a = c.args in
     let checked = sym c.check.ensures.0 ∙ c.in_ok-n.was in
     let w = write_whole (fields_of a.t.now) a.out.now c.in_ok-n.field-0 checked c.if-out-n.false in
-    (w.0, c.put.ensures ∙ w.1, read_written _ c.check.ensures.1)
+    (w.0, c.put.ensures ∙ w.1, read_checked _ c.check.ensures.1)

@@ -4,16 +4,13 @@ use mathlib.Core.Path.{◌≡◌, sym}
 use native.Mathlib.Omega.{arith}
 use lib.ListN.{get_or}
 use Rattle.std.proofs.lemmas.Result.{err_from_is_err_and}
-use Rattle.commands.proofs.Sound.{sound_admit, sound_start}
+use Rattle.commands.proofs.Sound.{sound_admit}
 use Rattle.commands.specs.Fits.FitsLayout.{none}
 use Rattle.ticket.specs.Fields.{blank_mark, mark_index}
 use Rattle.ticket.specs.Write.{mark_command}
 use Rattle.ticket.proofs.Left.{next_mark, no_mark}
 use Rattle.ticket.proofs.Onward.{from_header, one_more, stopped, passed}
 use Rattle.ticket.proofs.writer.check.Goals as goal
-
-pub all_admitted-requires : goal.all_admitted-requires
-all_admitted-requires c = rw c.initial.ensures sound_start
 
 pub returns-in_err-p : goal.returns-in_err-p
 returns-in_err-p c =

@@ -31,9 +31,6 @@ size t =
 pub put_all-at-requires : goal.put_all-at-requires
 put_all-at-requires c = rw c.header_commands.ensures.0 (omega (arith, size c.args.t.now))
 
-pub loop-i-init : goal.loop-i-init
-loop-i-init c = record { whole = refl; end = refl }
-
 pub put_command-at-requires : goal.put_command-at-requires
 unfolding width_of
 put_command-at-requires c =
