@@ -12,6 +12,7 @@ use lib.Dec.{leb}
 use lib.ListN.{length, get_or, take, drop, drop_of_length-le}
 use Rattle.commands.specs.Every.{more}
 use Rattle.commands.specs.Number.{AllBytes}
+use Rattle.answers.specs.declared.Cause.TheVariants.{BadRecord}
 use Rattle.commands.specs.declared.header.Window.{Window}
 use Rattle.records.specs.declared.progress.FileProgress.{FileProgress}
 use Rattle.records.specs.Read.{bytes_of, formed, LineOutcome, cause, line_by, line_of}
@@ -30,24 +31,24 @@ too_long t n bs h k =
     rw (le-leb 4 (length bs) (omega arith), ne_eqb (get_or bs 0 0 + 1) (length bs) (λ e. omega arith))
 
 module _ (w : Window) (p : FileProgress) (cs : List ℕ) where
-  unformed_as : (s t : ℕ) (bs : List ℕ) → formed t p.s1 bs ≡ false → line_by w p cs s t (Some bs) ≡ cause 25
+  unformed_as : (s t : ℕ) (bs : List ℕ) → formed t p.s1 bs ≡ false → line_by w p cs s t (Some bs) ≡ cause BadRecord
   unformed_as s t bs e = simp (e, and-false)
 
   uncounted : (s t : ℕ) (o : Option (List ℕ)) → ((bs : List ℕ) → o ≡ Some bs → AllBytes bs) → None ≡ countable o
-      → line_by w p cs s t o ≡ cause 25
+      → line_by w p cs s t o ≡ cause BadRecord
   uncounted s t None h e = refl
   uncounted s t (Some bs) h e = by (leb (length bs) 256) refl e
     where
-      by : (b : Bool) → leb (length bs) 256 ≡ b → None ≡ cond b (Some bs) None → line_by w p cs s t (Some bs) ≡ cause 25
+      by : (b : Bool) → leb (length bs) 256 ≡ b → None ≡ cond b (Some bs) None → line_by w p cs s t (Some bs) ≡ cause BadRecord
       by true f g = absurd cc
       by false f g =
           unformed_as s t bs (too_long t p.s1 bs (first_small bs (h bs refl)) (leb-false (length bs) 256 f))
 
-  pub short_line : (l : List ℕ) → length l < 2 → cause 25 ≡ line_of w p cs l
+  pub short_line : (l : List ℕ) → length l < 2 → cause BadRecord ≡ line_of w p cs l
   unfolding line_of bytes_of
   short_line l h = let e : drop 2 l ≡ [] = drop_of_length-le l {i = 2} (omega arith) in rw e
 
-  pub malformed_line : (l : List ℕ) → None ≡ countable (bytes_of (rest l 2)) → cause 25 ≡ line_of w p cs l
+  pub malformed_line : (l : List ℕ) → None ≡ countable (bytes_of (rest l 2)) → cause BadRecord ≡ line_of w p cs l
   unfolding line_of
   malformed_line l e =
       sym (uncounted (get_or l 0 0) (get_or l 1 0) (bytes_of (drop 2 l))

@@ -6,6 +6,8 @@ use mathlib.Core.List.{List, []}
 use Prim.Native.Nat.{ℕ, ◌+◌, ◌≤◌, ◌<◌}
 use native.Mathlib.Omega.{arith}
 use lib.ListN.{length, take, drop, length-drop, drop_of_length-le}
+use Rattle.answers.specs.declared.Cause.{Cause}
+use Rattle.answers.specs.declared.Cause.TheVariants.{BadRecord, BadAddress}
 use Rattle.ticket.specs.Read.{refusal}
 use Rattle.commands.specs.declared.header.Window.{Window}
 use Rattle.records.specs.declared.progress.FileProgress.{FileProgress}
@@ -34,11 +36,11 @@ module _ {w : Window} {file cs : List ℕ} {p : FileProgress} {rest : List ℕ} 
     unfolding file_from lines_of
     ends = let none : rest ≡ [] = drop_of_length-le rest {i = 0} (omega arith) in rw none at r.course
 
-    pub unended : p.ended ≡ false → refused (refusal 25 (line_number p)) ≡ file_of w file
+    pub unended : p.ended ≡ false → refused (refusal BadRecord (line_number p)) ≡ file_of w file
     unended e = rw e at ends
 
     module _ (e : p.ended ≡ true) where
-      pub ungiven : all_given (take w.length cs) ≡ false → refused (refusal 27 0) ≡ file_of w file
+      pub ungiven : all_given (take w.length cs) ≡ false → refused (refusal BadAddress 0) ≡ file_of w file
       ungiven g = rw (e, g) at ends
 
       pub given : all_given (take w.length cs) ≡ true → named (take w.length cs) ≡ file_of w file
@@ -52,8 +54,8 @@ module _ {w : Window} {file cs : List ℕ} {p : FileProgress} {rest : List ℕ} 
     by_line e = rw e (rw (first_line rest some_left) at r.course)
 
     -- it has a cause
-    pub stops : {n m : ℕ} → n ≡ line_length rest → line_of w p cs (take n rest) ≡ cause m
-        → refused (refusal m (line_number p)) ≡ file_of w file
+    pub stops : {n : ℕ} {c : Cause} → n ≡ line_length rest → line_of w p cs (take n rest) ≡ cause c
+        → refused (refusal c (line_number p)) ≡ file_of w file
     stops e o = rw o at (by_line e)
 
     -- it has none

@@ -14,6 +14,7 @@ use lib.ListN.{length, get_or, take}
 use lib.Seq.{get_or-take, length-take-le}
 use Rattle.lists.specs.Bit.{one}
 use Rattle.commands.specs.declared.header.Window.{Window}
+use Rattle.answers.specs.declared.Cause.TheVariants.{BadAddress}
 use Rattle.answers.specs.declared.Refusal.{Refusal}
 use Rattle.records.specs.declared.progress.FileProgress.{FileProgress}
 use Rattle.records.specs.Record.{Record, Given, given_from, Records, s0, s1, s5, s9, Gives, Names}
@@ -48,7 +49,7 @@ module _ (w : Window) where
   at_close p cs image e h = by_given (all_given (take w.length cs)) refl (rw e at h)
     where
       by_given : (b : Bool) → all_given (take w.length cs) ≡ b
-          → cond b (named (take w.length cs)) (refused (record { number = 27; place = 0 })) ≡ named image
+          → cond b (named (take w.length cs)) (refused (record { cause = BadAddress; place = 0 })) ≡ named image
           → (image ≡ take w.length cs) × (all_given image ≡ true)
       by_given false g h = absurd (refused_named _ _ h)
       by_given true g h = let same : take w.length cs ≡ image = cc in (sym same, rw same at g)
@@ -61,7 +62,7 @@ module _ (w : Window) where
     where
       by_line : (o : LineOutcome) → line_of w p cs l ≡ o
           → onward p o (λ q ds. file_from w q ds ls) ≡ named image → ⊥
-      by_line (cause n) f h = refused_named _ _ h
+      by_line (cause c) f h = refused_named _ _ h
       by_line (next q ds) f h = false≢true (sym (Line.line_left w p cs l q ds f).running ∙ e)
 
   -- one line more, by its type
@@ -143,7 +144,7 @@ module _ (w : Window) where
       by_line : ((q : FileProgress) (ds i : List ℕ) → q.ended ≡ false → file_from w q ds ls ≡ named i
           → ReadSo w q.s1 ds ls i) → (o : LineOutcome) → line_of w p cs l ≡ o
           → onward p o (λ q ds. file_from w q ds ls) ≡ named image → ReadSo w p.s1 cs (l ∷ ls) image
-      by_line again (cause n) f h = absurd (refused_named _ _ h)
+      by_line again (cause c) f h = absurd (refused_named _ _ h)
       by_line again (next q ds) f h =
           let left = Line.line_left w p cs l q ds f in
           let typed = Line.typed_says (get_or l 1 0) p.s1 _ (formed_encoded _ _ _ left.formed_so).1 in

@@ -11,6 +11,7 @@ use borrow.Author.Tests.{eq-eqb, ne_eqb}
 use lib.Dec.{eqb}
 use lib.ListN.{length, take, drop}
 use Rattle.ticket.proofs.Says.{leb_says}
+use Rattle.answers.specs.declared.Cause.TheVariants.{BadChecksum, BadAddress}
 use Rattle.commands.specs.declared.header.Window.{Window}
 use Rattle.records.specs.declared.progress.FileProgress.{FileProgress}
 use Rattle.records.specs.Record.{given_from, sum}
@@ -36,10 +37,10 @@ pub record Shaped (p : FileProgress) (s t : ℕ) (bs : List ℕ) : Type 0 where
 
 module _ (w : Window) {p : FileProgress} (cs : List ℕ) {s t : ℕ} {bs : List ℕ} (q : Shaped p s t bs) where
   by_sum : line_by w p cs s t (Some bs)
-      ≡ cond (eqb (sum bs % 256) 255) (entered_as p t (enter w cs (given_by t bs))) (cause 26)
+      ≡ cond (eqb (sum bs % 256) 255) (entered_as p t (enter w cs (given_by t bs))) (cause BadChecksum)
   by_sum = rw (q.going, q.marked, q.shaped)
 
-  pub wrong_sum : (sum bs % 256 ≡ 255 → ⊥) → cause 26 ≡ line_by w p cs s t (Some bs)
+  pub wrong_sum : (sum bs % 256 ≡ 255 → ⊥) → cause BadChecksum ≡ line_by w p cs s t (Some bs)
   wrong_sum h = sym (by_sum ∙ rw (ne_eqb (sum bs % 256) 255 h))
 
   module _ (right : sum bs % 256 ≡ 255) where
@@ -62,7 +63,7 @@ module _ (w : Window) {p : FileProgress} (cs : List ℕ) {s t : ℕ} {bs : List 
 
       pub not_entered : {r : Bool} (ds : List ℕ) → r ≡ false
           → entered r ds ≡ enter w cs (given_from a (part bs))
-          → cause 27 ≡ line_by w p cs s t (Some bs)
+          → cause BadAddress ≡ line_by w p cs s t (Some bs)
       not_entered ds e f = sym (by_data ∙ rw (← f, e))
 
       pub entered_as_given : {r : Bool} {ds : List ℕ} → r ≡ true

@@ -10,6 +10,7 @@ use lib.Dec.{eqb}
 use lib.ListN.{length, get_or, drop}
 use borrow.Author.Tests.{ne_eqb, eqb-true, not-true}
 use Rattle.lists.specs.Bit.{one}
+use Rattle.answers.specs.declared.Cause.TheVariants.{BadRecord, BadChecksum}
 use Rattle.commands.specs.declared.header.Window.{Window}
 use Rattle.ticket.proofs.Says.{eqb_says}
 use Rattle.records.specs.declared.progress.FileProgress.{FileProgress}
@@ -19,9 +20,6 @@ use Rattle.records.specs.Read.{entered_as}
 use Rattle.records.specs.Read.{cause, next, line_by, line_of}
 use Rattle.records.proofs.Spelling.{digit_above}
 use Rattle.records.proofs.RecordLaw.{inside, record_read, record_begins, record_sum, record_formed}
-
-cause_next : (n : ℕ) (q : FileProgress) (cs : List ℕ) → cause n ≡ next q cs → ⊥
-cause_next n q cs e = let z : ◌≡◌ {A = ℕ} 0 1 = cc in omega arith
 
 -- what is known of a line that leaves something for the next
 pub record Left (w : Window) (p : FileProgress) (cs l : List ℕ) (q : FileProgress) (ds : List ℕ) : Type 0 where
@@ -36,17 +34,17 @@ pub record Left (w : Window) (p : FileProgress) (cs l : List ℕ) (q : FileProgr
 
 module _ (w : Window) (p : FileProgress) (cs l : List ℕ) (q : FileProgress) (ds : List ℕ) where
   by_entering : (t : ℕ) (o : Option (List ℕ)) → entered_as p t o ≡ next q ds → (o ≡ Some ds) × (q ≡ after p t)
-  by_entering t None e = absurd (cause_next _ _ _ e)
+  by_entering t None e = absurd cc
   by_entering t (Some es) e = (cc, cc)
 
   by_tests : (bs : List ℕ) → bytes_of (drop 2 l) ≡ Some bs → (b c : Bool)
       → (not p.ended && (eqb (get_or l 0 0) 0x53 && formed (get_or l 1 0) p.s1 bs)) ≡ b
       → eqb (sum bs % 256) 255 ≡ c
       → let t = get_or l 1 0 in
-      cond b (cond c (entered_as p t (enter w cs (given_by t bs))) (cause 26)) (cause 25) ≡ next q ds
+      cond b (cond c (entered_as p t (enter w cs (given_by t bs))) (cause BadChecksum)) (cause BadRecord) ≡ next q ds
       → Left w p cs l q ds
-  by_tests bs r false c f s e = absurd (cause_next _ _ _ e)
-  by_tests bs r true false f s e = absurd (cause_next _ _ _ e)
+  by_tests bs r false c f s e = absurd cc
+  by_tests bs r true false f s e = absurd cc
   by_tests bs r true true f s e =
       let h = simp (and-eq-true_iff, eqb_says) at f in
       let i = by_entering (get_or l 1 0) _ e in
@@ -64,7 +62,7 @@ module _ (w : Window) (p : FileProgress) (cs l : List ℕ) (q : FileProgress) (d
   by_bytes : (o : Option (List ℕ)) → bytes_of (drop 2 l) ≡ o → line_by w p cs (get_or l 0 0) (get_or l 1 0) o
       ≡ next q ds
       → Left w p cs l q ds
-  by_bytes None r e = absurd (cause_next _ _ _ e)
+  by_bytes None r e = absurd cc
   by_bytes (Some bs) r e = by_tests bs r _ _ refl refl e
 
   pub line_left : line_of w p cs l ≡ next q ds → Left w p cs l q ds

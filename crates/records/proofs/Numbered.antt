@@ -8,6 +8,8 @@ use Rattle.std.specs.Prelude.{Option, None, Some}
 use native.Mathlib.Omega.{arith}
 use lib.Dec.{eqb}
 use lib.ListN.{get_or, take, drop}
+use Rattle.answers.specs.Cause.{number_of}
+use Rattle.answers.specs.declared.Cause.TheVariants.{BadRecord, BadChecksum, BadAddress}
 use Rattle.answers.specs.declared.Refusal.{Refusal}
 use Rattle.commands.specs.declared.header.Window.{Window}
 use Rattle.ticket.specs.Read.{refusal}
@@ -20,18 +22,18 @@ use Rattle.records.specs.Read.{line_of, FileOutcome, named, refused, all_given, 
 use Rattle.records.specs.Read.{blank_cells, file_of}
 
 abbrev OfLine : LineOutcome → Type 0
-OfLine (cause n) = Between 25 27 n
+OfLine (cause c) = Between 25 27 (number_of c)
 OfLine (next p cs) = Unit
 
 abbrev OfFile : FileOutcome → Type 0
 OfFile (named image) = Unit
-OfFile (refused r) = Between 25 27 r.number
+OfFile (refused r) = Between 25 27 (number_of r.cause)
 
 entered_numbered : (p : FileProgress) (t : ℕ) (o : Option (List ℕ)) → OfLine (entered_as p t o)
 entered_numbered p t None = search arith
 entered_numbered p t (Some cs) = tt
 
-tests_numbered : (b c : Bool) (o : LineOutcome) → OfLine o → OfLine (cond b (cond c o (cause 26)) (cause 25))
+tests_numbered : (b c : Bool) (o : LineOutcome) → OfLine o → OfLine (cond b (cond c o (cause BadChecksum)) (cause BadRecord))
 tests_numbered false c o h = search arith
 tests_numbered true false o h = search arith
 tests_numbered true true o h = h
@@ -44,7 +46,7 @@ line_numbered w p cs s t (Some bs) =
     (entered_as p t (enter w cs (given_by t bs))) (entered_numbered p t (enter w cs (given_by t bs)))
 
 closed_numbered : (b c : Bool) (i : List ℕ) (place : ℕ)
-    → OfFile (cond b (cond c (named i) (refused (refusal 27 0))) (refused (refusal 25 place)))
+    → OfFile (cond b (cond c (named i) (refused (refusal BadAddress 0))) (refused (refusal BadRecord place)))
 closed_numbered true true i place = tt
 closed_numbered true false i place = search arith
 closed_numbered false c i place = search arith
@@ -58,9 +60,10 @@ from_numbered w (l ∷ ls) p cs =
   where
     by_line : ((q : FileProgress) (ds : List ℕ) → OfFile (file_from w q ds ls)) → (o : LineOutcome) → OfLine o
         → OfFile (onward p o (λ q ds. file_from w q ds ls))
-    by_line again (cause n) h = h
+    by_line again (cause c) h = h
     by_line again (next q ds) h = again q ds
 
-pub file_numbered : (w : Window) (file : List ℕ) (r : Refusal) → file_of w file ≡ refused r → Between 25 27 r.number
+pub file_numbered : (w : Window) (file : List ℕ) (r : Refusal) → file_of w file ≡ refused r
+    → Between 25 27 (number_of r.cause)
 unfolding file_of
 file_numbered w file r e = rw e at (from_numbered w (lines_of file) initial blank_cells)

@@ -3,11 +3,11 @@ ghost use Rattle.std.specs.Prelude.{◌≡◌, ◌≤◌, ◌<◌, length, Some}
 ghost use Rattle.records.specs.Read.{line_by, line_of};
 ghost use Rattle.records.specs.inner.Decoded.{after_line, Counted};
 
-use answers::Cause;
 use crate::cells::{Cells, enter};
 use crate::decode::decode;
 use crate::progress::FileProgress;
 use crate::record::{address_of, formed, sum};
+use answers::Cause;
 use commands::header::Window;
 
 // A line's first two characters and its bytes: what the line leaves for the next; or 25, 26 or 27.
@@ -47,7 +47,7 @@ fn judged(
     })
 }
 
-#[tactic(auto, using(crate::proofs::CountableBytes::short_line, crate::proofs::CountableBytes::malformed_line, crate::proofs::CountableBytes::counted_line))]
+#[tactic(auto, using(crate::proofs::CountableBytes::short_line, crate::proofs::CountableBytes::malformed_line))]
 pub fn judge(
     code: Window,
     p: FileProgress,

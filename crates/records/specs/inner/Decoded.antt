@@ -3,6 +3,7 @@
 -- Assumes nothing.
 use Rattle.std.specs.Prelude.{ℕ, suc, ◌≤◌, ◌<◌, Bool, true, false, cond, List, [], ◌∷◌, eqb, leb, length, take}
 use Rattle.std.specs.Prelude.{Option, Some, None, Result, Ok, Err}
+use Rattle.answers.specs.declared.Cause.{Cause}
 use Rattle.answers.specs.declared.Refusal.{Refusal}
 use Rattle.commands.specs.declared.header.Window.{Window}
 use Rattle.records.specs.declared.progress.FileProgress.{FileProgress}
@@ -29,8 +30,8 @@ entered true cs = Some cs
 entered false cs = None
 
 -- the answer on a line, and the cells afterwards
-abbrev pub after_line : Result FileProgress ℕ → List ℕ → LineOutcome
-after_line (Err n) cs = cause n
+abbrev pub after_line : Result FileProgress Cause → List ℕ → LineOutcome
+after_line (Err c) cs = cause c
 after_line (Ok p) cs = next p cs
 
 -- the answer on a file, and the cells afterwards
