@@ -1,4 +1,4 @@
--- The numbers of the causes: document 01's ("Where a ticket stops"), and from 25 on document 02's. None is 0.
+-- The numbers of the causes: document 01's ("Where a ticket stops"), and from 25 on document 02's. None has 0.
 -- Assumes nothing.
 use Rattle.std.specs.Prelude.{ℕ}
 use Rattle.answers.specs.declared.Cause.{Cause}

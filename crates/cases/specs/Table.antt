@@ -10,6 +10,7 @@ use Rattle.stepper.specs.Step.{step_of}
 use Rattle.stepper.specs.Run.{run_of}
 use Rattle.ticket.specs.Read.{refusal}
 use Rattle.answers.specs.Verdict.{Verdict}
+use Rattle.answers.specs.declared.Cause.TheVariants as Cause
 use Rattle.rules.specs.Checks.{verdict_of}
 
 -- zeros, with some bytes from $8000 on
@@ -76,13 +77,13 @@ cases =
     -- 3: budget 25: spent at 21, PC $8005
     run routine_p (start 0xd0 7 0 0) 25 (spent (regs 7 0 0 0x1f2 0x8005 0xd0 0x1ef) (record { 0 = 21 })) ∷
     -- 4: limit 25: 19
-    verdict (ticket_p 5 25 23) routine_p (Err (refusal 19 0x8000)) ∷
+    verdict (ticket_p 5 25 23) routine_p (Err (refusal Cause.OverLimit 0x8000)) ∷
     -- 5: stack of 4: 20
-    verdict (ticket_p 4 26 23) routine_p (Err (refusal 20 0x8000)) ∷
+    verdict (ticket_p 4 26 23) routine_p (Err (refusal Cause.StackTooSmall 0x8000)) ∷
     -- 6: cost 22 at $8001: 16 there
-    verdict (ticket_p 5 26 22) routine_p (Err (refusal 16 0x8001)) ∷
+    verdict (ticket_p 5 26 22) routine_p (Err (refusal Cause.CostTooLow 0x8001)) ∷
     -- 7: empty ticket: 2 at 0
-    verdict [] routine_p (Err (refusal 2 0)) ∷
+    verdict [] routine_p (Err (refusal Cause.TicketCut 0)) ∷
     -- 8: ABA, A $7F, B $01: A $80; H N V set, Z C, which were set, clear; 2 cycles
     step (0x1b ∷ []) (start 0xd5 0x7f 0x01 0) (done (regs 0x80 0x01 0 0x1f2 0x8001 0xfa 0x1f2) (record { 0 = 2 })) ∷
     -- 9: ABX, X $FFFF, B 2: X $0001

@@ -1,6 +1,6 @@
 -- No cause applies to a command where all that must hold of it holds, and only there.
 -- Assumes nothing.
-use Prim.Native.Nat.{ℕ, suc, ◌≤◌}
+use Prim.Native.Nat.{ℕ, ◌≤◌}
 use native.Mathlib.Omega.{arith}
 use mathlib.Core.Path.{◌≡◌, refl}
 use mathlib.Core.Logic.{◌⊎◌, inl, inr}
@@ -13,14 +13,16 @@ use Rattle.commands.specs.Cause.{may_come, follows, in_order, ranges_hold, edges
 use Rattle.commands.specs.Cause.{inside, command_cause_of}
 use Rattle.commands.specs.declared.command.Command.{Command}
 use Rattle.commands.specs.declared.progress.Progress.{Progress}
+use Rattle.answers.specs.declared.Cause.{Cause}
+use Rattle.std.specs.Prelude.{Result, Ok, Err}
 
 never : false ≡ true → ◌≡◌ {A = ℕ} 0 1
 never e = cc
 
 -- a test that does not stop at its cause
-passed : (b : Bool) (v n : ℕ) → cond b v (suc n) ≡ 0 → (b ≡ true) × (v ≡ 0)
-passed true v n e = (refl, e)
-passed false v n e = absurd (omega arith)
+passed : (b : Bool) (v : Result Unit Cause) (x : Cause) → cond b v (Err x) ≡ Ok tt → (b ≡ true) × (v ≡ Ok tt)
+passed true v x e = (refl, e)
+passed false v x e = absurd (cc)
 
 -- a command of stage n that may come at a stage is not before it, and no command that every header has is left out
 pub record Comes (stage n : ℕ) : Type 0 where
@@ -52,17 +54,17 @@ pub record Allowed (p : Progress) (c : Command) : Type 0 where
   pub homed : home_outside p.header c ≡ true
   pub placed : inside p.header c ≡ true
 
-pub allowed : (p : Progress) (c : Command) → command_cause_of p c ≡ 0 → Allowed p c
+pub allowed : (p : Progress) (c : Command) → command_cause_of p c ≡ Ok tt → Allowed p c
 unfolding command_cause_of
 allowed p c e =
-    let o = passed (in_order p c) _ 2 e in
-    let r = passed (ranges_hold c) _ 3 o.1 in
-    let g = passed (edges_hold c) _ 4 r.1 in
-    let s = passed (separate p.header c) _ 5 g.1 in
-    let h = passed (home_outside p.header c) _ 28 s.1 in
-    let i = passed (inside p.header c) _ 6 h.1 in
+    let o = passed (in_order p c) _ _ e in
+    let r = passed (ranges_hold c) _ _ o.1 in
+    let g = passed (edges_hold c) _ _ r.1 in
+    let s = passed (separate p.header c) _ _ g.1 in
+    let h = passed (home_outside p.header c) _ _ s.1 in
+    let i = passed (inside p.header c) _ _ h.1 in
     record { ordered = o.0; ranged = r.0; edged = g.0; separated = s.0; homed = h.0; placed = i.0 }
 
-pub allow : (p : Progress) (c : Command) → Allowed p c → command_cause_of p c ≡ 0
+pub allow : (p : Progress) (c : Command) → Allowed p c → command_cause_of p c ≡ Ok tt
 unfolding command_cause_of
 allow p c a = rw (a.ordered, a.ranged, a.edged, a.separated, a.homed, a.placed)

@@ -1,5 +1,4 @@
 pub mod Every
-pub mod Tests
 pub mod Below
 pub mod Digits
 pub mod Put

@@ -6,9 +6,9 @@ use native.Mathlib.Numerals.{add-one}
 use native.Mathlib.Omega.{arith}
 use mathlib.Core.Logic.{⊎_elim}
 use mathlib.Core.Path.{◌≡◌, refl, ap}
-use mathlib.Core.Bool.{Bool, true, false, cond, ◌||◌, and-eq-true_iff}
+use mathlib.Core.Bool.{true, false, ◌||◌, and-eq-true_iff}
 use lib.Dec.{eqb, ltb}
-use borrow.Author.Tests.{ltb-true, leb-true, eqb-true, ne_eqb}
+use borrow.Author.Tests.{ltb-true, leb-true, ne_eqb}
 use Rattle.lists.specs.Bit.{one}
 use Rattle.commands.specs.Rows.{header_length}
 use Rattle.commands.specs.Bytes.{width_of}
@@ -16,12 +16,12 @@ use Rattle.commands.specs.Command.{stage_of}
 use Rattle.commands.specs.Progress.{initial_progress, staged_of, marked_of, named_of, after_of}
 use Rattle.commands.specs.inner.Sound.{header_bytes, Sound}
 use Rattle.commands.specs.Cause.{command_cause_of}
-use Rattle.commands.specs.Admit.{admit_of}
+use Rattle.commands.specs.Admit.{admit_by, admit_of}
 use Rattle.commands.specs.declared.command.Command.{Command}
-use Rattle.answers.specs.declared.Refusal.{Refusal}
+use Rattle.answers.specs.declared.Cause.{Cause}
 use Rattle.commands.specs.declared.header.Header.{Header}
 use Rattle.commands.specs.declared.progress.Progress.{Progress}
-use Rattle.std.specs.Prelude.{Ok, Err}
+use Rattle.std.specs.Prelude.{Result, Ok, Err}
 use Rattle.commands.proofs.Causes.{in_order_parts, Allowed, allowed}
 use Rattle.commands.proofs.Coding.{width_most}
 use Rattle.commands.proofs.HeaderLaw.{header_law}
@@ -125,16 +125,15 @@ module _ (p : Progress) (s : Sound p) where
       ((and-eq-true_iff _ _).0 o.1).0
   after Command.End a = to_end p s _ _ (width_most Command.End) (not_late Command.End a) refl end_wide
 
-pub sound_after : (p : Progress) (c : Command) → Sound p → command_cause_of p c ≡ 0 → Sound (after_of p c)
+pub sound_after : (p : Progress) (c : Command) → Sound p → command_cause_of p c ≡ Ok tt → Sound (after_of p c)
 sound_after p c s e = after p s c (allowed p c e)
 
 -- what an admitted command leaves is sound
 module _ (p q : Progress) (c : Command) (s : Sound p) where
-  picked : (r : Refusal) (b : Bool) → eqb (command_cause_of p c) 0 ≡ b → cond b (Ok (after_of p c)) (Err r) ≡ Ok q
-      → Sound q
-  picked r true e f = let same : after_of p c ≡ q = cc in rw (← same) (sound_after p c s (eqb-true _ _ e))
-  picked r false e f = let none : ◌≡◌ {A = ℕ} 0 1 = cc in absurd (omega arith)
+  picked : (v : Result Unit Cause) → command_cause_of p c ≡ v → admit_by v p c ≡ Ok q → Sound q
+  picked (Ok u) e f = let same : after_of p c ≡ q = cc in rw (← same) (sound_after p c s e)
+  picked (Err x) e f = absurd (cc)
 
   pub sound_admit : admit_of p c ≡ Ok q → Sound q
   unfolding admit_of
-  sound_admit f = picked _ _ refl f
+  sound_admit f = picked _ refl f

@@ -2,7 +2,7 @@
 -- "Where a ticket stops"), and document 02's 29, after the window checks (e).
 -- Assumes nothing.
 use Rattle.std.specs.Prelude.{ℕ, Bool, true, cond, not, ◌&&◌, ◌||◌, List, [], ◌∷◌, eqb, ltb, leb, Option}
-use Rattle.std.specs.Prelude.{Some, None}
+use Rattle.std.specs.Prelude.{Some, None, Result, Ok, Err}
 use Rattle.commands.specs.Rows.{CommandOperand, in_range, row_of, layout_of, required_length}
 use Rattle.commands.specs.Command.{command_byte_of, stage_of, operands_of, window_of}
 use Rattle.commands.specs.Header.{past_of, holds}

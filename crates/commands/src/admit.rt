@@ -1,5 +1,5 @@
 // A command after those before it: refused, or read, with what it leaves for the next.
-ghost use Rattle.std.specs.Prelude.{◌≡◌, ◌+◌, ◌<◌};
+ghost use Rattle.std.specs.Prelude.{◌≡◌, ◌+◌, ◌<◌, Ok};
 ghost use Rattle.commands.specs.Progress.{staged_of, marked_of, named_of, after_of};
 ghost use Rattle.commands.specs.inner.Sound.{Sound};
 ghost use Rattle.commands.specs.Cause.{command_cause_of};

@@ -7,11 +7,11 @@ ghost use Rattle.commands.specs.Cause.{header_home_outside, home_outside, inside
 ghost use Rattle.commands.specs.inner.Table.{in_range_code};
 ghost use Rattle.commands.specs.inner.WindowCause.{window_cause_of};
 
-use answers::Cause;
 use crate::command::{Command, HeaderCommand, byte_of, operands_of, window};
 use crate::header::{Header, Window, holds, past};
 use crate::progress::Progress;
 use crate::row::{REQUIRED_COMMANDS, TableOperand, row_of};
+use answers::Cause;
 
 // Marks rise; a name stands at once after its mark.
 fn follows(p: Progress, c: Command) -> bool
@@ -105,6 +105,7 @@ fn apart_from(h: Header, w: Window) -> bool
 }
 
 // 5 or 6 of a window.
+#[tactic(auto, unfolding(crate::specs::inner::WindowCause::window_cause_of))]
 fn window_cause(h: Header, c: Command) -> Result<(), Cause>
     ensures { result ≡ window_cause_of h c }
 {
@@ -152,6 +153,7 @@ fn inside(h: Header, c: Command) -> bool
 }
 
 // The first cause that applies.
+#[tactic(auto, unfolding(crate::specs::Cause::command_cause_of, crate::specs::inner::WindowCause::window_cause_of))]
 pub fn cause(p: Progress, c: Command) -> Result<(), Cause>
     ensures { result ≡ command_cause_of p c }
 {

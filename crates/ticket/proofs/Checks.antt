@@ -9,6 +9,7 @@ use native.Mathlib.Omega.{arith}
 use lib.ListN.{length, length-append}
 use borrow.Author.Tests.{le-leb, lt-leb}
 use Rattle.commands.specs.declared.command.Command.{Command}
+use Rattle.answers.specs.declared.Cause.TheVariants.{OutputTooSmall}
 use Rattle.answers.specs.declared.Refusal.{Refusal}
 use Rattle.commands.specs.declared.progress.Progress.{Progress}
 use Rattle.commands.specs.Progress.{initial_progress}
@@ -57,7 +58,7 @@ module _ (f : Fields) (out : List ℕ) where
   write_refused r e = simp e (refl, refl)
 
   module _ (p : Progress) (e : check_of f ≡ Ok p) where
-    pub write_short : length out < p.at → (Err (record { number = 24; place = p.at })
+    pub write_short : length out < p.at → (Err (record { cause = OutputTooSmall; place = p.at })
         ≡ write_of f (length out)) × (out ≡ output_of f out)
     unfolding write_of output_of
     write_short short = simp (e, ← checked_at f p e, lt-leb _ _ short) (refl, refl)

@@ -23,7 +23,7 @@ pub data Course : Progress → List Mark → List ℕ → List Command → Field
   done : {p : Progress} {ms : List Mark} → ended p ≡ true → Course p ms [] []
       (record { header = p.header; marks = in_file_order ms })
   goes : {p : Progress} {ms : List Mark} {s : List ℕ} {c : Command} {cs : List Command} {f : Fields} →
-      parse_of s ≡ Ok c → command_cause_of p c ≡ 0
+      parse_of s ≡ Ok c → command_cause_of p c ≡ Ok tt
       → Course (after_of p c) (marks_with ms c) (drop (width_of c) s) cs f → Course p ms s (c ∷ cs) f
 
 abbrev pub Commanded : Progress → List Mark → List ℕ → Fields → Type 0

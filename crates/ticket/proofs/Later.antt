@@ -2,12 +2,14 @@
 -- Assumes nothing.
 use Prim.Native.Nat.{ℕ, zero, suc, ◌+◌, ◌≤◌, ◌<◌}
 use mathlib.Core.Path.{◌≡◌, refl}
-use mathlib.Core.Bool.{Bool, true, false, cond}
+use mathlib.Core.Bool.{Bool, true, false}
 use mathlib.Core.List.{List, [], ◌∷◌}
 use native.Mathlib.Omega.{arith}
 use lib.Dec.{eqb}
 use lib.ListN.{length, drop, length-drop}
 use borrow.Author.Tests.{le-ltb}
+use Rattle.answers.specs.declared.Cause.{Cause}
+use Rattle.answers.specs.declared.Cause.TheVariants.{UnknownCommand, TicketCut, AfterEnd}
 use Rattle.commands.specs.declared.command.Command.{Command}
 use Rattle.commands.specs.declared.parse.ParseError.{ParseError}
 use Rattle.commands.specs.declared.parse.ParseError.TheVariants.{Unknown, Cut}
@@ -16,7 +18,7 @@ use Rattle.commands.specs.Rows.{header_length}
 use Rattle.commands.specs.Bytes.{parse_of, width_of}
 use Rattle.commands.specs.Progress.{after_of, ended}
 use Rattle.commands.specs.Cause.{in_order, command_cause_of}
-use Rattle.commands.specs.Admit.{admit_of}
+use Rattle.commands.specs.Admit.{admit_by, admit_of}
 use Rattle.commands.proofs.Coding.{after_at, parse_room, width_positive}
 use Rattle.ticket.specs.declared.fields.Mark.{Mark}
 use Rattle.ticket.specs.Fields.{marks_with}
@@ -59,33 +61,30 @@ same_order p n Command.End = refl
 
 module _ (from n : ℕ) where
   module _ (p : Progress) (k : ℕ) (b : Bool) (after : from ≤ p.at) where
-    moved_at : (v : ℕ) → moved_place from n (refusal v p.at) ≡ refusal v (p.at + n)
-    moved_at v = rw (le-ltb p.at from after)
+    moved_at : (x : Cause) → moved_place from n (refusal x p.at) ≡ refusal x (p.at + n)
+    moved_at x = rw (le-ltb p.at from after)
 
     at_end : (ms : List Mark) (s : List ℕ) → end_of (later p n k b) ms s ≡ moved from n (end_of p ms s)
     at_end ms [] = refl
-    at_end ms (x ∷ s) = rw (moved_at 8)
+    at_end ms (x ∷ s) = rw (moved_at AfterEnd)
 
     -- one turn, with what is known of the rest
     module _ (l m : ℕ) (ms : List Mark) (s : List ℕ) (alike : Alike p (later p n k b) s)
         (rest : (c : Command) → parse_of s ≡ Ok c → read_from m (after_of (later p n k b) c) (marks_with ms c)
         (drop (width_of c) s) ≡ moved from n (read_from l (after_of p c) (marks_with ms c) (drop (width_of c) s))) where
-      by_cause : (c : Command) → parse_of s ≡ Ok c → (v : ℕ) (t : Bool)
-          → let old = cond t (Ok (after_of p c)) (Err (refusal v p.at)) in
-          let new = cond t (Ok (after_of (later p n k b) c)) (Err (refusal v (p.at + n))) in
-          read_onward (admitted_as new c) ms s (read_from m)
-          ≡ moved from n (read_onward (admitted_as old c) ms s (read_from l))
-      by_cause c f v true = rest c f
-      by_cause c f v false = rw (moved_at v)
+      by_cause : (c : Command) → parse_of s ≡ Ok c → (v : Result Unit Cause)
+          → read_onward (admitted_as (admit_by v (later p n k b) c) c) ms s (read_from m)
+          ≡ moved from n (read_onward (admitted_as (admit_by v p c) c) ms s (read_from l))
+      by_cause c f (Ok u) = rest c f
+      by_cause c f (Err x) = rw (moved_at x)
 
       by_parsed : (d : Result Command ParseError) → parse_of s ≡ d
           → read_onward (parsed_as d (later p n k b)) ms s (read_from m)
           ≡ moved from n (read_onward (parsed_as d p) ms s (read_from l))
       unfolding admit_of
-      by_parsed (Err Unknown) f = rw (moved_at 1)
-      by_parsed (Err Cut) f = rw (moved_at 2)
-      by_parsed (Ok c) f =
-          rw (same_cause p n k b c (alike c f)) (by_cause c f (command_cause_of p c) (eqb (command_cause_of p c) 0))
+      by_parsed (Err Unknown) f = rw (moved_at UnknownCommand)
+      by_parsed (Err Cut) f = rw (moved_at TicketCut)
+      by_parsed (Ok c) f = rw (same_cause p n k b c (alike c f)) (by_cause c f (command_cause_of p c))
 
       by_ended : (t : Bool) → if_ended t (later p n k b) ms s (read_from m)
           ≡ moved from n (if_ended t p ms s (read_from l))

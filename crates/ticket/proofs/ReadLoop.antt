@@ -10,6 +10,7 @@ use mathlib.Core.List.{List, []}
 use lib.ListN.{length, drop, replicate, length-drop, drop_of_length-le}
 use lib.Seq.{drop-drop, drop-cons}
 use Rattle.commands.specs.declared.command.Command.{Command}
+use Rattle.answers.specs.declared.Cause.TheVariants.{AfterEnd}
 use Rattle.answers.specs.declared.Refusal.{Refusal}
 use Rattle.commands.specs.declared.progress.Progress.{Progress}
 use Rattle.commands.specs.Bytes.{parse_of, width_of}
@@ -79,7 +80,7 @@ module _ (s : List ℕ) (array : List Mark) (p : Progress) (h : ReadState s arra
             width_positive c,
           )
 
-      reached_after : command_cause_of p c ≡ 0 → next_command_of (drop p.at s) p ≡ Ok (after_of p c, c)
+      reached_after : command_cause_of p c ≡ Ok tt → next_command_of (drop p.at s) p ≡ Ok (after_of p c, c)
           → ReadState s (entered_in array p.count c) (after_of p c)
       reached_after free e =
           let next = consistent_next p h.marks h.kept c free in
@@ -121,7 +122,7 @@ module _ (s : List ℕ) (array : List Mark) (p : Progress) (h : ReadState s arra
     at_end : read_of s ≡ end_of p h.marks (drop p.at s)
     at_end = simp end at turn
 
-    pub reading_long : p.at < length s → read_of s ≡ refused (refusal 8 p.at)
+    pub reading_long : p.at < length s → read_of s ≡ refused (refusal AfterEnd p.at)
     reading_long l = rw (drop-cons s p.at 0) at at_end
 
     pub reading_done : length s ≤ p.at → Ok (record { header = p.header; count = p.count; marks = array })

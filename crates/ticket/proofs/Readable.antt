@@ -36,8 +36,8 @@ use Rattle.std.specs.Prelude.{Ok}
 
 ruleset tests = (true_says, and-eq-true_iff, leb_says, ltb_says, eqb_says, after_says, outside_says, apart_says)
 
-cause_says : (p : Progress) (c : Command) → (command_cause_of p c ≡ 0) ↔ ((in_order p c ≡ true) × (ranges_hold c ≡ true)
-    × (edges_hold c ≡ true) × (separate p.header c ≡ true) × (home_outside p.header c ≡ true)
+cause_says : (p : Progress) (c : Command) → (command_cause_of p c ≡ Ok tt) ↔ ((in_order p c ≡ true)
+    × (ranges_hold c ≡ true) × (edges_hold c ≡ true) × (separate p.header c ≡ true) × (home_outside p.header c ≡ true)
     × (inside p.header c ≡ true))
 cause_says p c = (
   λ e. let a = allowed p c e in (a.ordered, a.ranged, a.edged, a.separated, a.homed, a.placed),
@@ -74,12 +74,12 @@ required_says h cs z = simp (cause_says, tests) (λ f. search arith, λ r. searc
 -- ---- one mark, after a header and perhaps other marks
 
 module _ (p : Progress) (e : may_come p.stage header_length ≡ true) where
-  mark_says : (a : ℕ) (k : Claim) → (command_cause_of p (Command.Mark a k) ≡ 0) ↔ ((1 ≤ p.count → p.last < a)
+  mark_says : (a : ℕ) (k : Claim) → (command_cause_of p (Command.Mark a k) ≡ Ok tt) ↔ ((1 ≤ p.count → p.last < a)
       × ClaimRules k × In p.header.code a)
   unfolding ranges_hold
   mark_says a k = simp (cause_says, tests) (λ t. search arith, λ r. search arith)
 
-  end_free : command_cause_of p Command.End ≡ 0
+  end_free : command_cause_of p Command.End ≡ Ok tt
   unfolding ranges_hold
   end_free = simp (cause_says, tests) (search)
 
@@ -105,7 +105,7 @@ Marked ms h n l = Every (MarkRules h) ms × (1 ≤ n → Under l ms) × Rising m
 -- address
 module _ {m : Mark} {ms : List Mark} (p : Progress) (e : may_come p.stage header_length ≡ true) {Rest : Type 0}
     (rest : Rest ↔ Marked ms p.header (p.count + 1) m.address) where
-  more_says : (command_cause_of p (mark_command m) ≡ 0) × Rest ↔ Marked (m ∷ ms) p.header p.count p.last
+  more_says : (command_cause_of p (mark_command m) ≡ Ok tt) × Rest ↔ Marked (m ∷ ms) p.header p.count p.last
   more_says =
       let mark = mark_says p e m.address m.claim in
       let rise = rising_says m ms in (

@@ -31,6 +31,7 @@ use Rattle.ticket.specs.Write.{mark_command}
 use Rattle.ticket.specs.Spells.{NameText, StatesMarks}
 use Rattle.ticket.specs.Spells.{StatesMarks as Marks}
 use Rattle.ticket.proofs.Text.{name_text}
+use Rattle.std.specs.Prelude.{Ok}
 
 -- the header's commands so far: those before the stage, or, past them, all but home's, where home is $0000
 pub data Headed (p : Progress) : List Command → Type 0 where
@@ -189,7 +190,7 @@ module _ (p : Progress) where
   marked_name (named u v K) e l a t same n = absurd (false≢true e)
 
   said_step : {ms : List Mark} {ds : List Command} → SoFar p ms ds → Consistent p ms → (c : Command)
-      → command_cause_of p c ≡ 0 → Fits c → in_order p c ≡ true
+      → command_cause_of p c ≡ Ok tt → Fits c → in_order p c ≡ true
       → SoFar (after_of p c) (marks_with ms c) (ds ++ (c ∷ []))
   unfolding after_of
   said_step {ms} S k (Command.Header c) free fit o =
@@ -226,7 +227,7 @@ module _ (p : Progress) where
       }
 
   pub said_next : {ms : List Mark} {ds : List Command} → SoFar p ms ds → Consistent p ms → (c : Command)
-      → command_cause_of p c ≡ 0 → Fits c → SoFar (after_of p c) (marks_with ms c) (ds ++ (c ∷ []))
+      → command_cause_of p c ≡ Ok tt → Fits c → SoFar (after_of p c) (marks_with ms c) (ds ++ (c ∷ []))
   said_next S k c e fit = said_step S k c e fit (allowed p c e).ordered
 
 -- ---- one command more keeps it
@@ -251,6 +252,6 @@ module _ (p : Progress) where
   kept_step ms k Command.End o s =
       record { sound = s; counted = k.counted; latest = k.latest; homeless = λ l. absurd (omega arith) }
 
-  pub consistent_next : (ms : List Mark) → Consistent p ms → (c : Command) → command_cause_of p c ≡ 0 →
+  pub consistent_next : (ms : List Mark) → Consistent p ms → (c : Command) → command_cause_of p c ≡ Ok tt →
       Consistent (after_of p c) (marks_with ms c)
   consistent_next ms k c e = kept_step ms k c (allowed p c e).ordered (sound_after p c k.sound e)

@@ -2,18 +2,18 @@
 -- Assumes nothing.
 use Prim.Native.Nat.{◌+◌}
 use mathlib.Core.Path.{◌≡◌, refl}
-use mathlib.Core.Bool.{Bool, true, false, cond}
+use mathlib.Core.Bool.{Bool, true, false}
 use native.Mathlib.Omega.{arith}
-use lib.Dec.{eqb}
 use borrow.Author.Tests.{ne_eqb}
 use Rattle.commands.specs.declared.command.Command.{Command}
+use Rattle.answers.specs.declared.Cause.{Cause}
 use Rattle.answers.specs.declared.Refusal.{Refusal}
 use Rattle.commands.specs.declared.progress.Progress.{Progress}
 use Rattle.commands.specs.Rows.{header_length}
 use Rattle.commands.specs.Command.{stage_of}
 use Rattle.commands.specs.Progress.{after_of, ended}
 use Rattle.commands.specs.Cause.{command_cause_of}
-use Rattle.commands.specs.Admit.{admit_of}
+use Rattle.commands.specs.Admit.{admit_by, admit_of}
 use Rattle.commands.proofs.HeaderLaw.{header_law}
 use Rattle.std.specs.Prelude.{Result, Ok, Err}
 
@@ -21,13 +21,13 @@ use Rattle.std.specs.Prelude.{Result, Ok, Err}
 -- gives
 module _ (p : Progress) (c : Command) (P : Result Progress Refusal → Type 0)
     (refuses : (r : Refusal) → r.place ≡ p.at → P (Err r)) (goes : P (Ok (after_of p c))) where
-  by_cause : (r : Refusal) → r.place ≡ p.at → (b : Bool) → P (cond b (Ok (after_of p c)) (Err r))
-  by_cause r e true = goes
-  by_cause r e false = refuses r e
+  by_cause : (v : Result Unit Cause) → P (admit_by v p c)
+  by_cause (Ok u) = goes
+  by_cause (Err x) = refuses _ refl
 
   pub by_admission : P (admit_of p c)
   unfolding admit_of
-  by_admission = by_cause _ refl (eqb (command_cause_of p c) 0)
+  by_admission = by_cause (command_cause_of p c)
 
 -- whether a command is the end
 abbrev pub ends : Command → Bool

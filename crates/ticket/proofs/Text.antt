@@ -15,8 +15,9 @@ use Rattle.commands.specs.Cause.{ranges_hold, command_cause_of}
 use Rattle.commands.proofs.Causes.{allowed, allow}
 use Rattle.ticket.specs.Spells.{NameText}
 use Rattle.ticket.proofs.Says.{printable_says}
+use Rattle.std.specs.Prelude.{Ok}
 
-pub name_text : (p : Progress) (a t : ℕ) → command_cause_of p (Command.Name a t) ≡ 0 → Fits (Command.Name a t)
+pub name_text : (p : Progress) (a t : ℕ) → command_cause_of p (Command.Name a t) ≡ Ok tt → Fits (Command.Name a t)
     → NameText t
 unfolding ranges_hold
 name_text p a t free (operand l (operand eight no_operand)) =
@@ -29,7 +30,7 @@ name_text p a t free (operand l (operand eight no_operand)) =
 
 -- at once after its mark, which has its address
 pub name_free : (p : Progress) (w a t : ℕ) → NameText t
-    → command_cause_of (marked_of p w header_length a) (Command.Name a t) ≡ 0
+    → command_cause_of (marked_of p w header_length a) (Command.Name a t) ≡ Ok tt
 unfolding ranges_hold
 name_free p w a t n =
     allow (marked_of p w header_length a) (Command.Name a t)

@@ -9,7 +9,7 @@ use native.Mathlib.Nat.{zero-add, add-zero}
 use native.Mathlib.Omega.{arith}
 use lib.Dec.{eqb}
 use lib.ListN.{length, get_or, length-append}
-use borrow.Author.Tests.{eqb-false, eq-eqb, ne_eqb}
+use borrow.Author.Tests.{eqb-false, ne_eqb}
 use Rattle.commands.specs.declared.command.Command.{Command}
 use Rattle.commands.specs.declared.progress.Progress.{Progress}
 use Rattle.commands.specs.Every.{none, more}
@@ -41,7 +41,7 @@ abbrev marks_after : List Mark → List Command → List Mark
 marks_after ms [] = ms
 marks_after ms (c ∷ cs) = marks_after (marks_with ms c) cs
 
-module _ (p : Progress) (c : Command) (free : command_cause_of p c ≡ 0) where
+module _ (p : Progress) (c : Command) (free : command_cause_of p c ≡ Ok tt) where
   not_ended : ended p ≡ false
   not_ended =
       ne_eqb p.stage (header_length + 1)
@@ -58,7 +58,7 @@ module _ (p : Progress) (c : Command) (free : command_cause_of p c ≡ 0) where
   read_one n ms s fit =
       step n p ms c s not_ended fit (λ a. Unit {0}) (onward (read_from n (after_of p c) (marks_with ms c) s))
       (λ r. refl) (λ x. refl) tt
-      ∙ rw (eq-eqb _ _ free)
+      ∙ rw free
 
 -- the turns that are then left are enough
 abbrev ReadOn : ℕ → Progress → List Mark → List Command → List ℕ → Type 0
@@ -125,7 +125,7 @@ module _ (q : Progress) (n : ℕ) (b : Bool) (cs : List Command)
   other_left : (c : Command) → in_order (named q n b) c ≡ in_order q c → Past (after_of q c) (after_of q c).nameable
       → Free (named q n b) (c ∷ cs)
       → let r = after_all (after_of q c) (names_dropped cs) in
-      ((command_cause_of q c ≡ 0) × Free (after_of q c) (names_dropped cs))
+      ((command_cause_of q c ≡ Ok tt) × Free (after_of q c) (names_dropped cs))
       × (d : Bool) × (after_all (named q n b) (c ∷ cs) ≡ named r (n + 11 * names_among cs) d)
   other_left c alike past f =
       let same = later_after q n q.stage b c in
