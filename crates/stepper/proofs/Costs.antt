@@ -36,7 +36,8 @@ module _ (r : Registers) (m : List ℕ) (q : Registers) (k : Cycles) where
       let next = with_pc r (wrapping_add r.pc (length_at p)) in
       by_wait (waits (form_of d.action d.operand next.pc)) (effect_of d.action d.operand next m) (cycles_at p) s
 
-  carried : (p : ℕ) (f : Bytes) (d : Option Decoded) → decode_at p f ≡ d → (after (carried_out p d r m) m).answer ≡ done q k
+  carried : (p : ℕ) (f : Bytes) (d : Option Decoded) → decode_at p f ≡ d
+      → (after (carried_out p d r m) m).answer ≡ done q k
       → (2 ≤ k.0) × (k.0 ≤ 255)
   unfolding carried_out
   carried p f None e s = absurd cc

@@ -49,9 +49,9 @@ fn ends(home: Option<u16>, pc: u16) -> bool
     }
 }
 
-// The next instruction, wherever it stands, and those after it until PC is home; that one alone where there is none. The
-// lowest SP is kept beside the registers, which hold it only where they are handed on: in them it would cost the loop
-// more host instructions.
+// The next instruction, wherever it stands, and those after it until PC is home; that one alone where there is none.
+// The lowest SP is kept beside the registers, which hold it only where they are handed on: in them it would cost the
+// loop more host instructions.
 pub fn run_until(r: Registers, mem: &mut Memory, budget: u32, home: Option<u16>) -> Ended
     ensures { (ended_of result ≡ (until_of home r mem.old budget).answer)
         × (mem.new ≡ (until_of home r mem.old budget).memory) }

@@ -43,7 +43,8 @@ execute-q-requires-clause-n_bound c = executable c.number_at-n.result c.waits.en
 
 pub execute-q-requires-clause-k_value : goal.execute-q-requires-clause-k_value
 execute-q-requires-clause-k_value c =
-    fit c.in-Some.field-0.place c.number_at-n.result c.mode_number_at.result c.number_at-n.ensures c.mode_number_at.ensures
+    fit c.in-Some.field-0.place c.number_at-n.result c.mode_number_at.result c.number_at-n.ensures
+    c.mode_number_at.ensures
 
 pub returns-then-ends : goal.returns-then-ends
 returns-then-ends c =
