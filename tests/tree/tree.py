@@ -30,7 +30,7 @@ FAULTS = [
      lambda text: text.replace('An inner module', 'A module'),
      'reader.rt: inner: no head says so, and next_command asks'),
     ('an inner crate that does not say so', 'crates/opcodes/src/lib.rt',
-     lambda text: text.replace('An inner crate', 'A crate'), 'opcodes/src/lib.rt: inner: no head says so'),
+     lambda text: text.replace('An inner crate', 'A crate'), 'opcodes/src/lookup.rt: inner: no head says so'),
     ('a wide line', 'README.md', lambda text: text + 'x' * 121 + '\n', '121 characters'),
     ('a wide line of code', 'crates/memory/src/lib.rt', lambda text: text + '// ' + 'x' * 118 + '\n', '121 characters'),
     ('a crate under no heading', 'crates.txt', lambda text: text[text.index('lists:'):], 'under no heading'),
