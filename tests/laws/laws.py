@@ -131,7 +131,7 @@ FAULTS = [
     ('a weakened function of laws alone', RUN_SUMS, OTHER,
      'crates/stepper/specs/Answer.antt', 'cycles_spent (spent r k) = k.0', 'cycles_spent (spent r k) = 0'),
     ('one of the twelve cases taken out', 'proved (cases/proofs/Table.antt)', OTHER,
-     'crates/cases/specs/Table.antt', '    verdict [] routine_p (Refuse (refusal 2 0)) ∷\n', ''),
+     'crates/cases/specs/Table.antt', '    verdict [] routine_p (Err (refusal 2 0)) ∷\n', ''),
     ('a file taken out of Lib.antt', RUN_SUMS, UNPROVED, STEPPER, 'pub mod Sum\n', ''),
     ('a file declared for its crate alone', RUN_SUMS, UNPROVED, STEPPER, 'pub mod Sum\n', 'mod Sum\n'),
     ('a crate taken out of crates.txt', 'proved (cases/proofs/Table.antt)', UNPROVED,
@@ -140,7 +140,7 @@ FAULTS = [
     ('a law taken out of its table', RUN_SUMS, 'in statements.txt and in no table', PAGE, '| `run_sums` |', '| sums |'),
     ('a law of the text in no table', 'made_up, in the text', 'in no table', PAGE, 'law `unchanged`', 'law `made_up`'),
     ('a law said to be cited that is not', ALONE, "the text says [] besides, and not ['run_sums']",
-     PAGE, ' and `run_sums`.', '.'),
+     PAGE, 'and `run_sums`.', '.'),
 ]
 
 

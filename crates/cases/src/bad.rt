@@ -46,7 +46,8 @@ pub fn lengths(rt: &impl Print) {
     length_of::<65537>(rt, 0);
 }
 
-// What a step at $8000 comes to, with a refusal only where it has PC for its place and kept memory.
+// What a step at $8000 comes to, with a refusal only where it has PC for its place and kept memory. Kept apart from the
+// same of vectors, which steps on another memory: the two programs share no library that steps are tried in.
 #[derive(Clone, Copy)]
 enum Outcome {
     Done,

@@ -1,4 +1,3 @@
-pub mod Tests
 pub mod ClaimAt
 pub mod EachMark
 pub mod MarkCause

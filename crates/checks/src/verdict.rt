@@ -24,6 +24,7 @@ fn cause_at(h: Header, marks: &[Mark], image: &[u8], m: Mark) -> Result<(), Caus
     mark_cause(h.data, marks, m.claim, s.shape, inside)
 }
 
+// The first cause in document 01's order: 9, then 10 to 17 at each mark, then 18 to 20.
 fn verdict_by(h: Header, marks: &[Mark], image: &[u8]) -> Verdict
     requires { Readable (record { header = h; marks = marks.now }) }
     ensures { result ≡ verdict_on (record { header = h; marks = marks.now }) image.now }
@@ -39,7 +40,8 @@ fn verdict_by(h: Header, marks: &[Mark], image: &[u8]) -> Verdict
     whole(h, claim_at(marks, h.entry))
 }
 
-// The marks that an array begins with.
+// The marks that an array begins with. A function of its own, whose contract is over the array: behind the ticket's
+// reference a proof isn't told that the array has 4,096 elements.
 #[tactic(auto, using(ticket::proofs::Listed::listed_take))]
 fn listed(marks: &[Mark; 4096], count: u16) -> &[Mark]
     requires { count ≤ 4096 }

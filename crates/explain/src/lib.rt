@@ -103,7 +103,8 @@ pub fn refused(rt: &impl Print, x: Refusal, ticket: &[u8], image: &[u8]) {
     to_do_line(rt, x);
 }
 
-// Where an S-record file is refused, so that there is no image: 25 to 27. Its ticket is read; another has no code window.
+// Where an S-record file is refused, so that there is no image: 25 to 27. Of a ticket that is not read the code window
+// is empty.
 pub fn refused_file(rt: &impl Print, x: Refusal, ticket: &[u8], file: &[u8]) {
     let code = match read(ticket) {
         Ok(t) => t.header.code,

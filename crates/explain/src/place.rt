@@ -39,8 +39,8 @@ fn leaves(image: &[u8], i: usize) -> bool
     left_from(image, i) < size_at(image, i)
 }
 
-// The first bytes' digits, a space after each, and spaces for the others. Of an operand that is not all there nothing is
-// shown.
+// The first bytes' digits, a space after each, and spaces for the others. Of an operand that is not all there nothing
+// is shown.
 fn cut(l: Listing, left: usize) -> Listing
     requires { left < 5 }
 {

@@ -27,8 +27,8 @@ impl From<Error> for FileError {
     }
 }
 
-// How many bytes the whole file has, at the start of the buffer. No file is opened by a name that is not UTF-8. One more
-// byte is asked for: its absence tells the end from a failure, and from more to come.
+// How many bytes the whole file has, at the start of the buffer. No file is opened by a name that is not UTF-8. One
+// more byte is asked for: its absence tells the end from a failure, and from more to come.
 pub fn load(rt: &impl Files, name: &[u8], buf: &mut [u8]) -> Result<usize, FileError>
     ensures { IfOk result (λ n. IsPrefixLen n buf.new) }
 {

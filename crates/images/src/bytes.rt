@@ -23,7 +23,7 @@ pub fn file_in<'a>(s: &[u8], space: &'a mut [u8]) -> &'a [u8] {
     &space[..n]
 }
 
-// A digit's value. Images have digits in lower case alone.
+// A digit's value. Images have digits in lower case alone. Kept apart from that of tickets, as it says there.
 fn digit(b: u8) -> u8
     ensures { result < 16 }
 {

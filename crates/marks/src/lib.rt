@@ -8,7 +8,8 @@ ghost use Rattle.ticket.specs.Fields.{blank_mark};
 use commands::command::Claim;
 use ticket::fields::Ticket;
 
-// Where the mark of an address stands. It is searched from the first on: nothing says of any ticket that its marks rise.
+// Where the mark of an address stands. It is searched from the first on, as nothing says of any ticket that its marks
+// rise.
 pub fn index_of(t: &Ticket, a: u16) -> Option<usize>
     ensures first { result ≡ position (λ m. m.address == a) (take t.now.count t.now.marks) }
     ensures found { IfSome result (λ i. (i < 4096)

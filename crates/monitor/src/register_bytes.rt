@@ -3,6 +3,7 @@
 ghost use Rattle.std.specs.Prelude.{◌≡◌};
 ghost use Rattle.monitor.specs.RegisterBytes.{packed, unpacked};
 
+use crate::big_endian::word_in;
 use registers::Registers;
 
 pub type RegisterBytes = [u8; 13];
@@ -12,17 +13,15 @@ pub type RegisterBytes = [u8; 13];
 pub fn unpack(regs: &RegisterBytes) -> Registers
     ensures { result ≡ unpacked regs.now }
 {
-    let [a, b, x_high, x_low, y_high, y_low, sp_high, sp_low, pc_high, pc_low, flags, lowest_high, lowest_low] =
-        *regs;
     Registers {
-        x: u16::from_be_bytes([x_high, x_low]),
-        y: u16::from_be_bytes([y_high, y_low]),
-        sp: u16::from_be_bytes([sp_high, sp_low]),
-        pc: u16::from_be_bytes([pc_high, pc_low]),
-        lowest: u16::from_be_bytes([lowest_high, lowest_low]),
-        a,
-        b,
-        flags,
+        x: word_in(regs, 2),
+        y: word_in(regs, 4),
+        sp: word_in(regs, 6),
+        pc: word_in(regs, 8),
+        lowest: word_in(regs, 11),
+        a: regs[0],
+        b: regs[1],
+        flags: regs[10],
     }
 }
 
@@ -36,6 +35,18 @@ pub fn pack(r: Registers, regs: &mut RegisterBytes)
     let [pc_high, pc_low] = r.pc.to_be_bytes();
     let [lowest_high, lowest_low] = r.lowest.to_be_bytes();
     *regs = [
-        r.a, r.b, x_high, x_low, y_high, y_low, sp_high, sp_low, pc_high, pc_low, r.flags, lowest_high, lowest_low,
+        r.a,
+        r.b,
+        x_high,
+        x_low,
+        y_high,
+        y_low,
+        sp_high,
+        sp_low,
+        pc_high,
+        pc_low,
+        r.flags,
+        lowest_high,
+        lowest_low,
     ];
 }

@@ -6,7 +6,8 @@ ghost use Rattle.std.specs.Prelude.{◌<◌, ◌≤◌};
 use std::io;
 use std::io::Write;
 
-// A digit's value. The cases have digits alone where one is wanted.
+// A digit's value. The cases have digits alone where one is wanted. Kept apart from that of images: the two programs
+// share no library of tests, and `lists` has no value for what is no digit.
 fn digit(b: u8) -> u8
     ensures { result < 16 }
 {

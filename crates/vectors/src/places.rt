@@ -7,7 +7,7 @@ use output::{counted, decimal, text};
 use registers::Registers;
 use stepper::step;
 
-// What a step at $8000 comes to, with a refusal only where it names PC and kept memory.
+// What a step at $8000 comes to, with a refusal only where it names PC and kept memory; kept apart from that of cases.
 #[derive(Clone, Copy)]
 enum Stands {
     Done,

@@ -3,17 +3,18 @@
 -- Assumes nothing.
 use Prim.Native.Nat.{ℕ, ◌-◌}
 use mathlib.Core.Path.{◌≡◌, refl, sym, ap, subst}
-use Rattle.verdict.specs.Start.{loaded_of}
+use Rattle.verdict.specs.Start.{started_of, loaded_of}
 use mathlib.Core.Bool.{Bool, true, false, cond}
 use mathlib.Core.List.{List}
 use native.Mathlib.Omega.{arith}
-use borrow.Author.Tests.{eqb-true}
+use borrow.Author.Tests.{eq-eqb, eqb-true}
 use lib.Dec.{eqb}
 use lib.ListN.{length}
 use Rattle.std.specs.Prelude.{Ok, Err}
 use Rattle.registers.specs.declared.Cycles.{Cycles}
 use Rattle.registers.specs.declared.Data.{Data}
 use Rattle.answers.specs.declared.Acceptance.{Acceptance}
+use Rattle.answers.specs.declared.Refusal.{Refusal}
 use Rattle.commands.specs.Number.{AllBytes}
 use Rattle.ticket.specs.Fields.{Fields, ReadOutcome, read, refused}
 use Rattle.ticket.specs.Read.{refusal, read_of}
@@ -22,6 +23,7 @@ use Rattle.answers.specs.Verdict.{Verdict}
 use Rattle.rules.specs.Checks.{verdict_on, verdict_by, verdict_of}
 use Rattle.rules.proofs.Sound.{accepted}
 use Rattle.rules.proofs.Demand.{comes_home}
+use Rattle.verdict.specs.declared.Certificate.{Certificate}
 use Rattle.verdict.specs.declared.started.Start.{Start}
 use Rattle.verdict.specs.Certification.{Certification, certification_if, certification_by, certification_of}
 use Rattle.verdict.specs.Certification.{verdict_in}
@@ -127,3 +129,16 @@ pub started_comes_home : (ticket image : List ℕ) → AllBytes ticket → (d : 
     StartedComesHome ticket image d m
 unfolding start_routine_of
 started_comes_home ticket image bytes d m = home_sized ticket image d m bytes (eqb (length m) 65536) refl
+
+-- what the code answers, by the certification
+module _ (ticket image : List ℕ) (d : Data) (m : List ℕ) (size : length m ≡ 65536) where
+  pub not_certified : (x : Refusal) → Err x ≡ certification_of ticket image
+      → start_routine_of ticket image d m ≡ after_start (Err x) m
+  unfolding start_routine_of
+  not_certified x e = rw (eq-eqb _ _ size, ← e)
+
+  pub certified_start : (c : Certificate) → Ok c ≡ certification_of ticket image
+      → start_routine_of ticket image d m
+      ≡ after_start (started_of c.header d image m) (loaded_of c.header image m)
+  unfolding start_routine_of
+  certified_start c e = rw (eq-eqb _ _ size, ← e)

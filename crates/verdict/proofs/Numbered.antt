@@ -112,7 +112,8 @@ module _ (image : List ℕ) (ms : List Mark) (s : List ℕ) (f : ReadRest)
   admit_numbered p q c zero k = left q _ _
   admit_numbered p q c (suc n) k = rw eqb-suc-zero (known_says n _ _ refl refl k)
 
-  turn_numbered : (p : Progress) (d : Result Command ParseError) → Numbered (verdict_by (read_onward (parsed_as d p) ms s f) image)
+  turn_numbered : (p : Progress) (d : Result Command ParseError) →
+      Numbered (verdict_by (read_onward (parsed_as d p) ms s f) image)
   unfolding admit_of
   turn_numbered p (Err Unknown) = inl (search arith)
   turn_numbered p (Err Cut) = inl (search arith)

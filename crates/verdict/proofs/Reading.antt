@@ -1,5 +1,5 @@
--- What reading a ticket tells of its verdict, its certification, and the verdict on an S-record file: the refusal, or the
--- fields to judge.
+-- What reading a ticket tells of its verdict, its certification, and the verdict on an S-record file: the refusal, or
+-- the fields to judge.
 -- Assumes nothing.
 use Prim.Native.Nat.{ℕ, ◌≤◌}
 use mathlib.Core.Path.{◌≡◌, refl, ap, ◌∙◌}

@@ -11,7 +11,7 @@ use Rattle.ticket.specs.Rules.{Between}
 use Rattle.verdict.specs.Promise.{VerdictNumber}
 use Rattle.records.specs.Record.{Names}
 use Rattle.records.specs.Read.{named, file_of}
-use Rattle.records.specs.Load.{AfterLoad, load_of}
+use Rattle.records.specs.Load.{load_of}
 use Rattle.rules.specs.Rules.{Certified}
 use Rattle.rules.specs.Claim.{Demand3}
 use Rattle.rules.specs.Checks.{verdict_on, verdict_of}

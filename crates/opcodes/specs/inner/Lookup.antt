@@ -8,7 +8,8 @@ use Rattle.opcodes.specs.Decode.{opcode_place, opcode_size}
 
 -- what the table has at a place, after an opcode of so many bytes
 unfoldable pub entry_of : ℕ → ℕ → Option Found
-entry_of place size = cond (eqb (cost_at place) 0) None (Some (record { place = place; size = size; cost = cost_at place }))
+entry_of place size =
+    let c = cost_at place in cond (eqb c 0) None (Some (record { place = place; size = size; cost = c }))
 
 -- the place, the size of the opcode and the entry of the table, where an instruction is
 unfoldable pub found_of : ℕ → ℕ → Option Found

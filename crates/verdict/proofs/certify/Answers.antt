@@ -1,9 +1,7 @@
 -- `certify` meets its contract.
 -- Assumes nothing.
 use Rattle.std.proofs.Common.{rules}
-use Rattle.std.proofs.lemmas.Result.{err_from_is_err_and}
 use Rattle.commands.proofs.Digits.{all_bytes}
-use Rattle.ticket.specs.Fields.{fields_of}
 use Rattle.verdict.proofs.Home.{certificate_comes_home}
 use Rattle.verdict.proofs.Reading.{certification_refused, certified, uncertified, readable}
 use Rattle.verdict.proofs.certify.Goals as goal

@@ -2,7 +2,6 @@
 -- Assumes nothing.
 use Rattle.std.proofs.Common.{◌≡◌, length, sym, add-one, arith}
 use borrow.Author.Tests.{ne_eqb}
-use Rattle.ticket.specs.Fields.{Fields}
 use Rattle.checks.proofs.EachMark.{every_at}
 use Rattle.checks.proofs.VerdictByMarks.{verdict_short, verdict_start, verdict_mark, verdict_end}
 use Rattle.checks.proofs.verdict.verdict_by.Goals as goal
