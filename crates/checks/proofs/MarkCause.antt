@@ -5,12 +5,13 @@ use mathlib.Core.Path.{◌≡◌, refl, sym, ◌∙◌}
 use mathlib.Core.Bool.{Bool, true, false, cond, ◌&&◌}
 use mathlib.Core.List.{List, ◌++◌}
 use lib.Dec.{leb}
-use Rattle.std.specs.Prelude.{Option, Some, None}
+use Rattle.std.specs.Prelude.{Option, Some, None, Result}
 use Rattle.commands.specs.Header.{past_of, holds}
 use Rattle.commands.specs.declared.command.Claim.{Claim}
 use Rattle.commands.specs.declared.header.Window.{Window}
 use Rattle.ticket.specs.declared.fields.Mark.{Mark}
 use Rattle.ticket.specs.Fields.{Fields}
+use Rattle.answers.specs.declared.Cause.{Cause}
 use Rattle.answers.specs.Verdict.{Verdict}
 use Rattle.rules.specs.Marks.{claim_at, image_from}
 use Rattle.rules.specs.Shape.{shape_of, instruction_size}
@@ -26,10 +27,10 @@ use Rattle.checks.specs.declared.shape.Shape.TheVariants as Shape
 use Rattle.checks.specs.inner.Said.{successors_said, writes_said, shape_said}
 use Rattle.checks.specs.inner.MarkCause.{in_data, both, claims_in, mark_cause_of, cause_then, CauseIs}
 
-then_cond : (b : Bool) (n k place : ℕ) (v : Verdict) → cause_then (cond b n k) place v
-    ≡ cond b (cause_then n place v) (cause_then k place v)
-then_cond true n k place v = refl
-then_cond false n k place v = refl
+then_cond : (b : Bool) (r s : Result Unit Cause) (place : ℕ) (v : Verdict) → cause_then (cond b r s) place v
+    ≡ cond b (cause_then r place v) (cause_then s place v)
+then_cond true r s place v = refl
+then_cond false r s place v = refl
 
 cond_same : {A : Type 0} (b : Bool) (a : A) → cond b a a ≡ a
 cond_same true a = refl

@@ -11,6 +11,8 @@ use lib.ListN.{length}
 use borrow.Author.Tests.{eq-eqb, eqb-true}
 use Rattle.std.specs.Prelude.{Ok, Err}
 use Rattle.answers.specs.declared.Acceptance.{Acceptance}
+use Rattle.answers.specs.Cause.{number_of}
+use Rattle.answers.specs.declared.Cause.TheVariants.{BadImage}
 use Rattle.answers.specs.declared.Refusal.{Refusal}
 use Rattle.answers.specs.Verdict.{Verdict}
 use Rattle.commands.specs.Number.{AllBytes}
@@ -65,7 +67,7 @@ module _ (ticket file buffer : List ℕ) where
           → (records_verdict_of ticket file buffer).answer ≡ Ok a → (f : Fields) × (image : List ℕ)
           × Good f image
       by_room f image t n true r h = (f, image, record { ticket_read = t; file_read = n; room = eqb-true _ _ r })
-      by_room f image t n false r h = absurd (refuse_accept (refusal 9 0) a (rw (t, n, r) at h))
+      by_room f image t n false r h = absurd (refuse_accept (refusal BadImage 0) a (rw (t, n, r) at h))
 
       by_file : (f : Fields) → read_of ticket ≡ read f → (o : FileOutcome) → file_of f.header.code file ≡ o
           → (records_verdict_of ticket file buffer).answer ≡ Ok a → (f : Fields) × (image : List ℕ)
@@ -179,7 +181,7 @@ module _ (ticket file buffer : List ℕ) where
     Answers r = (records_verdict_of ticket file buffer).answer ≡ Err r
 
     abbrev InTables : Refusal → Type 0
-    InTables r = VerdictNumber r.number ⊎ Between 25 27 r.number
+    InTables r = VerdictNumber (number_of r.cause) ⊎ Between 25 27 (number_of r.cause)
 
     -- by what is refused: the ticket, the file, the buffer, or the image
     refusals_numbered : FileRefusalsNumbered ticket file buffer
@@ -192,7 +194,7 @@ module _ (ticket file buffer : List ℕ) where
             let g : Good f image = record { ticket_read = t; file_read = n; room = eqb-true _ _ room } in
             inl (numbered ticket image r (rw (judged f image g) at h))
         by_room f image t n false room h =
-            let same : refusal 9 0 ≡ r = refuse_same (rw (t, n, room) at h) in inl (rw (← same) (inl (search arith)))
+            let same : refusal BadImage 0 ≡ r = refuse_same (rw (t, n, room) at h) in inl (rw (← same) (inl (search arith)))
 
         by_file : (f : Fields) → read_of ticket ≡ read f → (o : FileOutcome) → file_of f.header.code file ≡ o
             → Answers r → InTables r
@@ -207,32 +209,32 @@ module _ (ticket file buffer : List ℕ) where
 
     -- a good file is not refused with 25 to 27
     good_numbered : (f : Fields) (image : List ℕ) → read_of ticket ≡ read f → file_of f.header.code file ≡ named image
-        → (r : Refusal) → Answers r → VerdictNumber r.number
+        → (r : Refusal) → Answers r → VerdictNumber (number_of r.cause)
     unfolding records_verdict_of load_of
     good_numbered f image t n r h = by_room (eqb (length buffer) f.header.code.length) refl
       where
-        by_room : (b : Bool) → eqb (length buffer) f.header.code.length ≡ b → VerdictNumber r.number
+        by_room : (b : Bool) → eqb (length buffer) f.header.code.length ≡ b → VerdictNumber (number_of r.cause)
         by_room true room =
             let g : Good f image = record { ticket_read = t; file_read = n; room = eqb-true _ _ room } in
             numbered ticket image r (rw (judged f image g) at h)
         by_room false room =
-            let same : refusal 9 0 ≡ r = refuse_same (rw (t, n, room) at h) in rw (← same) (inl (search arith))
+            let same : refusal BadImage 0 ≡ r = refuse_same (rw (t, n, room) at h) in rw (← same) (inl (search arith))
 
     refused_exactly : FileRefusedExactly ticket file buffer
     refused_exactly f t = (only, if_none)
       where
-        only : (r : Refusal) × Answers r × Between 25 27 r.number
+        only : (r : Refusal) × Answers r × Between 25 27 (number_of r.cause)
             → (image : List ℕ) → Names f.header.code file image → ⊥
         only (r, h, b) image n =
-            ⊎_elim (λ (low : Between 1 20 r.number). omega (arith, low.1, b.0)) (λ e. omega (arith, b.1))
+            ⊎_elim (λ (low : Between 1 20 (number_of r.cause)). omega (arith, low.1, b.0)) (λ e. omega (arith, b.1))
             (good_numbered f image t ((file_good_exactly f t image).1 n) r h)
 
         if_none : ((image : List ℕ) → Names f.header.code file image → ⊥)
-            → (r : Refusal) × Answers r × Between 25 27 r.number
+            → (r : Refusal) × Answers r × Between 25 27 (number_of r.cause)
         if_none none = by_file (file_of f.header.code file) refl
           where
             by_file : (o : FileOutcome) → file_of f.header.code file ≡ o
-                → (r : Refusal) × Answers r × Between 25 27 r.number
+                → (r : Refusal) × Answers r × Between 25 27 (number_of r.cause)
             by_file (named image) n = absurd (none image ((file_good_exactly f t image).0 n))
             by_file (file_refused x) n = (x, file_refused_so f t x n, file_numbered f.header.code file x n)
 

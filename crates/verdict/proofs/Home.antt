@@ -14,6 +14,7 @@ use Rattle.std.specs.Prelude.{Ok, Err}
 use Rattle.registers.specs.declared.Cycles.{Cycles}
 use Rattle.registers.specs.declared.Data.{Data}
 use Rattle.answers.specs.declared.Acceptance.{Acceptance}
+use Rattle.answers.specs.declared.Cause.TheVariants.{BadLength}
 use Rattle.answers.specs.declared.Refusal.{Refusal}
 use Rattle.commands.specs.Number.{AllBytes}
 use Rattle.ticket.specs.Fields.{Fields, ReadOutcome, read, refused}
@@ -120,7 +121,8 @@ module _ (ticket image : List ℕ) (d : Data) (m : List ℕ) where
 
   -- by whether the memory has 65,536 bytes
   home_sized : (bytes : AllBytes ticket) (b : Bool) → eqb (length m) 65536 ≡ b
-      → Home (cond b (start_routine_by (certification_of ticket image) d image m) (after_start (Err (refusal 21 0)) m))
+      → Home (cond b (start_routine_by (certification_of ticket image) d image m)
+      (after_start (Err (refusal BadLength 0)) m))
   home_sized bytes true e s h =
       home_by bytes (eqb-true _ _ e) (certification_of ticket image) (homeward ticket image bytes) s h
   home_sized bytes false e s h = absurd cc

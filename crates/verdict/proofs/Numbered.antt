@@ -13,7 +13,7 @@ use borrow.Author.Tests.{leb-true, eqb-true}
 use Rattle.commands.specs.Bytes as Bytes
 use Rattle.commands.specs.Cause.{command_cause_of}
 use Rattle.commands.specs.Progress.{initial_progress, after_of, ended}
-use Rattle.commands.specs.Admit.{admit_of}
+use Rattle.commands.specs.Admit.{admit_by, admit_of}
 use Rattle.commands.specs.declared.command.Claim.{Claim}
 use Rattle.commands.specs.declared.command.Command.{Command}
 use Rattle.commands.specs.declared.parse.ParseError.{ParseError}
@@ -24,6 +24,8 @@ use Rattle.ticket.specs.Fields.{Fields, in_file_order}
 use Rattle.ticket.specs.Read.{refusal, admitted_as, parsed_as, next_command_of, end_of, ReadRest, read_onward}
 use Rattle.ticket.specs.Read.{if_ended, read_from}
 use Rattle.ticket.specs.Read.{read_of}
+use Rattle.answers.specs.Cause.{number_of}
+use Rattle.answers.specs.declared.Cause.{Cause}
 use Rattle.answers.specs.Verdict.{Verdict}
 use Rattle.rules.specs.Marks.{claim_at}
 use Rattle.rules.specs.Checks.{Check, first_failing, checks_at, checks_of_marks, whole_checks, checks_of, accept_of}
@@ -36,21 +38,21 @@ InTable n = (1 ≤ n) × (n ≤ 20)
 
 abbrev OneToTwenty : Verdict → Type 0
 OneToTwenty (Ok a) = Unit
-OneToTwenty (Err r) = InTable r.number
+OneToTwenty (Err r) = InTable (number_of r.cause)
 
 abbrev AllInTable : List Check → Type 0
 AllInTable [] = Unit
-AllInTable (c ∷ cs) = InTable c.number × AllInTable cs
+AllInTable (c ∷ cs) = InTable (number_of c.cause) × AllInTable cs
 
-either : (b : Bool) (v : Verdict) (n place : ℕ) → OneToTwenty v → InTable n →
-    OneToTwenty (cond b v (Err (refusal n place)))
-either true v n place rest this = rest
-either false v n place rest this = this
+either : (b : Bool) (v : Verdict) (c : Cause) (place : ℕ) → OneToTwenty v → InTable (number_of c) →
+    OneToTwenty (cond b v (Err (refusal c place)))
+either true v c place rest this = rest
+either false v c place rest this = this
 
 first_numbered : (cs : List Check) (v : Verdict) → AllInTable cs → OneToTwenty v → OneToTwenty (first_failing cs v)
 first_numbered [] v these rest = rest
 first_numbered (c ∷ cs) v these rest =
-    either c.passes (first_failing cs v) c.number c.place (first_numbered cs v these.1 rest) these.0
+    either c.passes (first_failing cs v) c.cause c.place (first_numbered cs v these.1 rest) these.0
 
 accept_numbered : (entry : ℕ) (k : Option Claim) → OneToTwenty (accept_of entry k)
 accept_numbered entry None = search arith
@@ -72,26 +74,22 @@ module _ (f : Fields) (image : List ℕ) where
 
 -- ---- and those of reading
 
--- none, 1 to 20, or 29
-abbrev known : ℕ → Bool
-known n = leb n 20 || eqb n 29
+-- a command's cause is 3 to 7, or 29
+abbrev Known : Result Unit Cause → Type 0
+Known (Ok u) = Unit
+Known (Err c) = VerdictNumber (number_of c)
 
-known_says : (n : ℕ) (a b : Bool) → leb (suc n) 20 ≡ a → eqb (suc n) 29 ≡ b → (a || b) ≡ true → VerdictNumber (suc n)
-known_says n true b e f t = inl (omega arith, leb-true (suc n) 20 e)
-known_says n false true e f t = inr (eqb-true (suc n) 29 f)
-known_says n false false e f t = absurd (true≢false (sym t))
+picked : (b : Bool) (r s : Result Unit Cause) → Known r → Known s → Known (cond b r s)
+picked true r s p q = p
+picked false r s p q = q
 
-picked : (b : Bool) (n k : ℕ) → known n ≡ true → known k ≡ true → known (cond b n k) ≡ true
-picked true n k p q = p
-picked false n k p q = q
-
-cause_known : (p : Progress) (c : Command) → known (command_cause_of p c) ≡ true
+cause_known : (p : Progress) (c : Command) → Known (command_cause_of p c)
 unfolding command_cause_of
-cause_known p c = search picked depth 8
+cause_known p c = search (arith, picked, inl, inr) depth 10
 
 abbrev Numbered : Verdict → Type 0
 Numbered (Ok a) = Unit
-Numbered (Err r) = VerdictNumber r.number
+Numbered (Err r) = VerdictNumber (number_of r.cause)
 
 one_of_all : (v : Verdict) → OneToTwenty v → Numbered v
 one_of_all (Ok a) t = tt
@@ -106,18 +104,17 @@ end_numbered image p ms (b ∷ s) = inl (search arith)
 -- `left`: whatever is left to do gives such a verdict
 module _ (image : List ℕ) (ms : List Mark) (s : List ℕ) (f : ReadRest)
     (left : (q : Progress) (ks : List Mark) (t : List ℕ) → Numbered (verdict_by (f q ks t) image)) where
-  admit_numbered : (p q : Progress) (c : Command) (n : ℕ) → known n ≡ true
-      → Numbered (verdict_by (read_onward (admitted_as (cond (eqb n 0) (Ok q) (Err (refusal n p.at))) c) ms s
-      f) image)
-  admit_numbered p q c zero k = left q _ _
-  admit_numbered p q c (suc n) k = rw eqb-suc-zero (known_says n _ _ refl refl k)
+  admit_numbered : (p : Progress) (c : Command) (r : Result Unit Cause) → Known r
+      → Numbered (verdict_by (read_onward (admitted_as (admit_by r p c) c) ms s f) image)
+  admit_numbered p c (Ok u) k = left (after_of p c) _ _
+  admit_numbered p c (Err x) k = k
 
   turn_numbered : (p : Progress) (d : Result Command ParseError) →
       Numbered (verdict_by (read_onward (parsed_as d p) ms s f) image)
   unfolding admit_of
   turn_numbered p (Err Unknown) = inl (search arith)
   turn_numbered p (Err Cut) = inl (search arith)
-  turn_numbered p (Ok c) = admit_numbered p (after_of p c) c (command_cause_of p c) (cause_known p c)
+  turn_numbered p (Ok c) = admit_numbered p c (command_cause_of p c) (cause_known p c)
 
   rest_numbered : (p : Progress) (ended : Bool) → Numbered (verdict_by (if_ended ended p ms s f) image)
   unfolding next_command_of
@@ -133,8 +130,3 @@ read_numbered image (suc n) p ms s = rest_numbered image ms s _ (read_numbered i
 pub numbered : (ticket image : List ℕ) → RefusalsNumbered ticket image
 unfolding verdict_of read_of
 numbered ticket image r h = rw h at (read_numbered image (suc (length ticket)) initial_progress [] ticket)
-
--- none is 0
-pub number_positive : {n : ℕ} → VerdictNumber n → 1 ≤ n
-number_positive (inl b) = b.0
-number_positive (inr e) = omega arith

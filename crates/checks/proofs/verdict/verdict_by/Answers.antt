@@ -1,7 +1,6 @@
 -- `verdict_by` meets its contract: each turn's cause decides between a refusal and the next turn.
 -- Assumes nothing.
 use Rattle.std.proofs.Common.{◌≡◌, length, sym, add-one, arith}
-use borrow.Author.Tests.{ne_eqb}
 use Rattle.checks.proofs.EachMark.{every_at}
 use Rattle.checks.proofs.VerdictByMarks.{verdict_short, verdict_start, verdict_mark, verdict_end}
 use Rattle.checks.proofs.verdict.verdict_by.Goals as goal
@@ -12,19 +11,19 @@ returns-then-image-h c = rw c.refuse.ensures (sym (verdict_short _ _ c.if-image-
 pub loop-m-init : goal.loop-m-init
 loop-m-init c = verdict_start _ _ c.if-image-h.false
 
-pub cause_at-n-requires-clause-start_le_address : goal.cause_at-n-requires-clause-start_le_address
-cause_at-n-requires-clause-start_le_address c =
+pub cause_at-requires-clause-start_le_address : goal.cause_at-requires-clause-start_le_address
+cause_at-requires-clause-start_le_address c =
     (every_at c.requires.mark_rules c.loop-m.m-index c.loop-m-test.true).inside.0
 
-pub returns-then-n-ne0 : goal.returns-then-n-ne0
-returns-then-n-ne0 c =
-    let next = verdict_mark _ _ _ c.loop-m-test.true _ c.cause_at-n.ensures in
-    rw (c.refuse-then-n-ne0.ensures, c.loop-m.invariant, next, ne_eqb _ 0 c.if-n-ne0.true)
+pub returns-in-Err : goal.returns-in-Err
+returns-in-Err c =
+    let next = verdict_mark _ _ _ c.loop-m-test.true _ c.cause_at.ensures in
+    rw (c.refuse-in-Err.ensures, c.loop-m.invariant, next, c.in-Err.is)
 
 pub loop-m-preserved : goal.loop-m-preserved
 loop-m-preserved c =
-    let next = verdict_mark _ _ _ c.loop-m-test.true _ c.cause_at-n.ensures in
-    rw (add-one, c.loop-m.invariant, next, c.if-n-ne0.false)
+    let next = verdict_mark _ _ _ c.loop-m-test.true _ c.cause_at.ensures in
+    rw (add-one, c.loop-m.invariant, next, c.in_default.is)
 
 pub returns : goal.returns
 returns c =
