@@ -1,9 +1,12 @@
 -- The numbers of the causes: none is 0, the highest is 29, and no two causes share one.
 -- Assumes nothing.
-use Prim.Native.Nat.{ℕ, ◌<◌, ◌≤◌}
-use mathlib.Core.Path.{◌≡◌, refl, sym, ap, ◌∙◌}
+use Prim.Native.Nat.{ℕ, ◌≤◌}
+use mathlib.Core.Path.{◌≡◌}
+use mathlib.Core.Bool.{false}
 use mathlib.Core.List.{List, [], ◌∷◌}
 use native.Mathlib.Omega.{arith}
+use borrow.Author.Tests.{ne_eqb}
+use lib.Dec.{eqb}
 use lib.ListN.{get_or}
 use Rattle.answers.specs.declared.Cause.{Cause}
 use Rattle.answers.specs.declared.Cause.TheVariants.{UnknownCommand, TicketCut, OutOfOrder, OutOfRange, WindowEdge}
@@ -16,6 +19,9 @@ use Rattle.answers.specs.Cause.{number_of}
 
 pub number_positive : (c : Cause) → 1 ≤ number_of c
 number_positive c = search arith
+
+pub not_zero : (c : Cause) → eqb (number_of c) 0 ≡ false
+not_zero c = ne_eqb _ 0 (λ z. omega (arith, z, number_positive c))
 
 pub number_small : (c : Cause) → number_of c ≤ 29
 number_small c = search arith

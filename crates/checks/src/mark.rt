@@ -6,9 +6,9 @@ ghost use Rattle.checks.specs.inner.Said.{ordinary_said};
 ghost use Rattle.checks.specs.inner.MarkCause.{in_data, claims_in, follows_of, ordinary_of, called_of, call_of};
 ghost use Rattle.checks.specs.inner.MarkCause.{return_of, mark_cause_of};
 
-use answers::Cause;
 use crate::marks::claim_at;
 use crate::shape::{Call, Ordinary, Shape, Successors, Writes};
+use answers::Cause;
 use commands::command::Claim;
 use commands::header::{Window, holds};
 use registers::Cycles;

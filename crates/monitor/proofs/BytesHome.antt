@@ -22,7 +22,7 @@ use Rattle.rules.specs.Claim.{WithinNeed, Stops, ran_home}
 use Rattle.verdict.specs.Start.{Started}
 use Rattle.verdict.specs.Routine.{AfterStart, start_routine_of, StartCertified}
 use Rattle.verdict.proofs.Home.{started_comes_home}
-use Rattle.verdict.proofs.StartNumbered.{start_numbered}
+use Rattle.answers.proofs.Causes.{number_positive}
 use Rattle.monitor.specs.BigEndian.{word_in}
 use Rattle.monitor.specs.RegisterBytes.{register_size, packed, unpacked}
 use Rattle.monitor.specs.StepperCalls.{stepper_call, run_bytes_of}
@@ -107,7 +107,7 @@ module _ (h p : ℕ) (ticket image rs m : List ℕ) (bytes : AllBytes ticket) wh
   home_of : (s : Started) → b.answer ≡ s → Home (of_started s h p rs b.memory)
   home_of (Ok s) e z =
       (packed_come_home ticket image s.registers s.home _ (started_comes_home ticket image bytes _ m s e)).0
-  home_of (Err r) e z = absurd (omega (arith, z, start_numbered ticket image _ m r e))
+  home_of (Err r) e z = absurd (omega (arith, z, number_positive r.cause))
 
   -- by whether there are as many register bytes as are asked for
   home_sized : (sized : Bool) → Home (cond sized (of_started b.answer h p rs b.memory) (start_call 21 h 0 rs m))

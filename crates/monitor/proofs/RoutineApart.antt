@@ -6,10 +6,10 @@ use Prim.Native.Nat.{ℕ}
 use mathlib.Core.Path.{◌≡◌, refl, sym, ap, ◌∙◌}
 use mathlib.Core.Bool.{cond}
 use mathlib.Core.List.{List}
-use borrow.Author.Tests.{ne_eqb}
 use lib.Dec.{eqb}
 use Rattle.answers.specs.declared.Refusal.{Refusal}
 use Rattle.answers.specs.Verdict.{Verdict}
+use Rattle.answers.proofs.Causes.{cause_from, cause_back, not_zero}
 use Rattle.verdict.specs.Certification.{Certification, verdict_in}
 use Rattle.verdict.specs.Start.{Started}
 use Rattle.monitor.specs.RegisterBytes.{unpacked}
@@ -18,25 +18,13 @@ use Rattle.monitor.specs.Slot.{certificate_in}
 use Rattle.monitor.specs.RoutineCalls.{VerdictCall, of_judged, StartCall, of_started, CertifyCall, of_certification}
 use Rattle.monitor.proofs.SlotRoundTrip.{certificate_in_slot}
 
--- as every refusal of the verdict and of a start is
-abbrev pub Numbered : Refusal → Type 0
-Numbered r = r.number ≡ 0 → ⊥
-
-abbrev pub NumberedStart : Started → Type 0
-NumberedStart (Ok s) = Unit
-NumberedStart (Err r) = Numbered r
-
-abbrev pub NumberedCertification : Certification → Type 0
-NumberedCertification (Ok c) = Unit
-NumberedCertification (Err r) = Numbered r
-
 -- the home of a certification, or the one that was lent
 abbrev pub home_in : ℕ → Certification → ℕ
 home_in h (Ok k) = k.header.home
 home_in h (Err r) = h
 
 abbrev refusal_from : (number place : ℕ) → Refusal
-refusal_from n p = record { number = n; place = p }
+refusal_from n p = record { cause = cause_from n; place = p }
 
 abbrev verdict_from : VerdictCall → Verdict
 verdict_from j =
@@ -60,37 +48,34 @@ certification_from f =
     (Err (refusal_from f.outcome f.place))
 
 module _ (e h c s p : ℕ) where
-  verdict_back : (a : Certification) → NumberedCertification a → verdict_from (of_judged a e h c s p) ≡ verdict_in a
-  verdict_back (Ok k) n = refl
-  verdict_back (Err r) n = rw (ne_eqb _ _ n)
+  verdict_back : (a : Certification) → verdict_from (of_judged a e h c s p) ≡ verdict_in a
+  verdict_back (Ok k) = refl
+  verdict_back (Err r) = simp (not_zero r.cause, cause_back r.cause)
 
   home_back : (a : Certification) → (of_judged a e h c s p).home ≡ home_in h a
   home_back (Ok k) = refl
   home_back (Err r) = refl
 
   -- the verdicts that two certifications stand for, and their homes
-  pub verdicts_apart : (a b : Certification) → NumberedCertification a → NumberedCertification b
+  pub verdicts_apart : (a b : Certification)
       → of_judged a e h c s p ≡ of_judged b e h c s p → (verdict_in a ≡ verdict_in b) × (home_in h a ≡ home_in h b)
-  verdicts_apart a b n o g = (
-    sym (verdict_back a n) ∙ ap verdict_from g ∙ verdict_back b o,
+  verdicts_apart a b g = (
+    sym (verdict_back a) ∙ ap verdict_from g ∙ verdict_back b,
     sym (home_back a) ∙ ap (λ (j : VerdictCall). j.home) g ∙ home_back b,
   )
 
 module _ (h p : ℕ) (rs m : List ℕ) where
-  start_back : (a : Started) → NumberedStart a → start_from (of_started a h p rs m) ≡ a
-  start_back (Ok s) n = rw (unpacked_packed s.registers)
-  start_back (Err r) n = rw (ne_eqb _ _ n)
+  start_back : (a : Started) → start_from (of_started a h p rs m) ≡ a
+  start_back (Ok s) = rw (unpacked_packed s.registers)
+  start_back (Err r) = simp (not_zero r.cause, cause_back r.cause)
 
-  pub starts_apart : (a b : Started) → NumberedStart a → NumberedStart b
-      → of_started a h p rs m ≡ of_started b h p rs m → a ≡ b
-  starts_apart a b n o g = sym (start_back a n) ∙ ap start_from g ∙ start_back b o
+  pub starts_apart : (a b : Started) → of_started a h p rs m ≡ of_started b h p rs m → a ≡ b
+  starts_apart a b g = sym (start_back a) ∙ ap start_from g ∙ start_back b
 
 module _ (p : ℕ) (slot : List ℕ) where
-  certification_back : (a : Certification) → NumberedCertification a → certification_from (of_certification a p slot)
-      ≡ a
-  certification_back (Ok c) n = rw (certificate_in_slot c)
-  certification_back (Err r) n = rw (ne_eqb _ _ n)
+  certification_back : (a : Certification) → certification_from (of_certification a p slot) ≡ a
+  certification_back (Ok c) = rw (certificate_in_slot c)
+  certification_back (Err r) = simp (not_zero r.cause, cause_back r.cause)
 
-  pub certifications_apart : (a b : Certification) → NumberedCertification a → NumberedCertification b
-      → of_certification a p slot ≡ of_certification b p slot → a ≡ b
-  certifications_apart a b n o h = sym (certification_back a n) ∙ ap certification_from h ∙ certification_back b o
+  pub certifications_apart : (a b : Certification) → of_certification a p slot ≡ of_certification b p slot → a ≡ b
+  certifications_apart a b h = sym (certification_back a) ∙ ap certification_from h ∙ certification_back b

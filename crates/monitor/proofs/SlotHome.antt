@@ -10,12 +10,12 @@ use borrow.Author.Tests.{eq-eqb}
 use lib.Dec.{eqb}
 use lib.ListN.{length}
 use Rattle.registers.specs.Registers.{data_of}
+use Rattle.answers.proofs.Causes.{number_positive}
 use Rattle.commands.specs.Number.{AllBytes}
 use Rattle.verdict.specs.declared.Certificate.{Certificate}
 use Rattle.verdict.specs.Certification.{Certification, certification_of}
 use Rattle.verdict.specs.Start.{loaded_of}
 use Rattle.verdict.proofs.Home.{certificate_comes_home}
-use Rattle.verdict.proofs.StartNumbered.{certification_numbered}
 use Rattle.monitor.specs.RegisterBytes.{packed, unpacked}
 use Rattle.monitor.specs.Slot.{slot_size, slot_of}
 use Rattle.monitor.specs.RoutineCalls.{start_call, CertifyCall, certify_call, of_certification, certify_bytes_of}
@@ -44,7 +44,7 @@ module _ (ticket image : List ℕ) (bytes : AllBytes ticket) where
     -- by the certification: 0 is no refusal's number
     home_of : (a : Certification) → certification_of ticket image ≡ a → Home (of_certification a p slot)
     home_of (Ok c) e z = slot_comes_home c e
-    home_of (Err r) e z = absurd (omega (arith, z, certification_numbered ticket image r e))
+    home_of (Err r) e z = absurd (omega (arith, z, number_positive r.cause))
 
     -- by whether there are as many slot bytes as are asked for
     home_sized : (sized : Bool) → Home (cond sized (of_certification (certification_of ticket image) p slot)

@@ -5,7 +5,7 @@ ghost use Rattle.monitor.specs.StepperCalls.{stepper_call, step_bytes_of, run_by
 ghost use Rattle.monitor.specs.inner.Replies.{stepper_replied};
 
 use crate::register_bytes::{RegisterBytes, pack, unpack};
-use answers::Refusal;
+use answers::{Cause, Refusal};
 use registers::{Cycles, Registers};
 use stepper::answer::Ran;
 use stepper::environment::Environment;
@@ -18,10 +18,10 @@ pub const BAD_LENGTH: u32 = 21;
 // Past the numbers of the papers' refusals, which go to 37.
 const SPENT: u32 = 100;
 
-// A run refused on its way: the refusal's number and place, and the cycles before it.
+// A run refused on its way: the refusal's cause and place, and the cycles before it.
 #[derive(Clone, Copy)]
 pub struct StoppedRun {
-    pub number: u32,
+    pub cause: Cause,
     pub cycles: Cycles,
     pub place: u16,
 }
@@ -82,7 +82,7 @@ pub fn run_on(regs: &mut [u8], mem: &mut [u8], home: u16, budget: u32) -> Steppe
         Ran::Spent(q) => reached(q.registers, bytes, StepperReply::Done(SPENT, q.cycles)),
         Ran::Refused(q, x) => {
             let s = StoppedRun {
-                number: u32::from(x.cause.number()),
+                cause: x.cause,
                 cycles: q.cycles,
                 place: address_of(x),
             };
@@ -104,7 +104,7 @@ pub fn answer(a: StepperReply, cycles: &mut u32, place: &mut u16) -> u32
         StepperReply::Stopped(s) => {
             *cycles = s.cycles.0;
             *place = s.place;
-            s.number
+            u32::from(s.cause.number())
         }
         StepperReply::Refused(n, p) => {
             *place = p;

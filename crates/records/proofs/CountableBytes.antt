@@ -39,7 +39,8 @@ module _ (w : Window) (p : FileProgress) (cs : List ℕ) where
   uncounted s t None h e = refl
   uncounted s t (Some bs) h e = by (leb (length bs) 256) refl e
     where
-      by : (b : Bool) → leb (length bs) 256 ≡ b → None ≡ cond b (Some bs) None → line_by w p cs s t (Some bs) ≡ cause BadRecord
+      by : (b : Bool) → leb (length bs) 256 ≡ b → None ≡ cond b (Some bs) None
+          → line_by w p cs s t (Some bs) ≡ cause BadRecord
       by true f g = absurd cc
       by false f g =
           unformed_as s t bs (too_long t p.s1 bs (first_small bs (h bs refl)) (leb-false (length bs) 256 f))

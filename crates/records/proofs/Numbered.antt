@@ -33,7 +33,8 @@ entered_numbered : (p : FileProgress) (t : ℕ) (o : Option (List ℕ)) → OfLi
 entered_numbered p t None = search arith
 entered_numbered p t (Some cs) = tt
 
-tests_numbered : (b c : Bool) (o : LineOutcome) → OfLine o → OfLine (cond b (cond c o (cause BadChecksum)) (cause BadRecord))
+tests_numbered : (b c : Bool) (o : LineOutcome) → OfLine o
+    → OfLine (cond b (cond c o (cause BadChecksum)) (cause BadRecord))
 tests_numbered false c o h = search arith
 tests_numbered true false o h = search arith
 tests_numbered true true o h = h

@@ -194,7 +194,8 @@ module _ (ticket file buffer : List ℕ) where
             let g : Good f image = record { ticket_read = t; file_read = n; room = eqb-true _ _ room } in
             inl (numbered ticket image r (rw (judged f image g) at h))
         by_room f image t n false room h =
-            let same : refusal BadImage 0 ≡ r = refuse_same (rw (t, n, room) at h) in inl (rw (← same) (inl (search arith)))
+            let same : refusal BadImage 0 ≡ r = refuse_same (rw (t, n, room) at h) in
+            inl (rw (← same) (inl (search arith)))
 
         by_file : (f : Fields) → read_of ticket ≡ read f → (o : FileOutcome) → file_of f.header.code file ≡ o
             → Answers r → InTables r

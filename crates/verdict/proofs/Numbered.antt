@@ -1,15 +1,13 @@
 -- A refusal's number is one of document 01's table, 1 to 20, or document 02's 29.
 -- Assumes nothing.
 use Prim.Native.Nat.{ℕ, zero, suc, ◌≤◌}
-use mathlib.Core.Path.{◌≡◌, refl, sym}
+use mathlib.Core.Path.{◌≡◌}
 use mathlib.Core.Logic.{inl, inr}
-use mathlib.Core.Bool.{Bool, true, false, cond, ◌||◌, true≢false}
+use mathlib.Core.Bool.{Bool, true, false, cond}
 use mathlib.Core.List.{List, [], ◌∷◌, ◌++◌}
 use Rattle.std.specs.Prelude.{Option, Some, None, Result, Ok, Err}
 use native.Mathlib.Omega.{arith}
-use lib.Dec.{eqb, leb, eqb-suc-zero}
 use lib.ListN.{length}
-use borrow.Author.Tests.{leb-true, eqb-true}
 use Rattle.commands.specs.Bytes as Bytes
 use Rattle.commands.specs.Cause.{command_cause_of}
 use Rattle.commands.specs.Progress.{initial_progress, after_of, ended}
@@ -130,3 +128,8 @@ read_numbered image (suc n) p ms s = rest_numbered image ms s _ (read_numbered i
 pub numbered : (ticket image : List ℕ) → RefusalsNumbered ticket image
 unfolding verdict_of read_of
 numbered ticket image r h = rw h at (read_numbered image (suc (length ticket)) initial_progress [] ticket)
+
+-- none is 0
+pub number_positive : {n : ℕ} → VerdictNumber n → 1 ≤ n
+number_positive (inl b) = b.0
+number_positive (inr e) = omega arith

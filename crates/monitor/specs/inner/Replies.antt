@@ -11,7 +11,7 @@ use Rattle.answers.specs.Cause.{number_of}
 -- what a reply does not answer is as it was lent
 abbrev pub stepper_replied : StepperReply → (cycles place : ℕ) (registers memory : List ℕ) → StepperCall
 stepper_replied (Stepper.Done n k) c p rs m = stepper_call n k.0 p rs m
-stepper_replied (Stepper.Stopped s) c p rs m = stepper_call s.number s.cycles.0 s.place rs m
+stepper_replied (Stepper.Stopped s) c p rs m = stepper_call (number_of s.cause) s.cycles.0 s.place rs m
 stepper_replied (Stepper.Refused n at) c p rs m = stepper_call n c at rs m
 
 -- of a start, which answers home: h and p are home and the place as they were lent
