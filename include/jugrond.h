@@ -32,7 +32,7 @@ extern "C" {
  * 10000 * major + 100 * minor + patch. docs/CHANGELOG.md says what each version changes. Major rises where a caller
  * has to change something, minor where something is added.
  */
-#define JUGROND_VERSION "3.0.1"
+#define JUGROND_VERSION "3.0.2"
 #define JUGROND_VERSION_NUMBER 30001
 
 #define JUGROND_REGISTER_BYTES 13

@@ -1,5 +1,7 @@
 // Bad input: memories of other lengths, every place of the four opcode maps, and instructions that wrap at $FFFF. A
 // refusal leaves memory as it was, which is looked at byte by byte.
+ghost use Rattle.std.specs.Prelude.{◌<◌};
+
 use crate::documented::memory_with;
 use crate::print::{ran, stepped};
 use answers::{Cause, Refusal};
@@ -33,7 +35,9 @@ fn length(rt: &impl Print, mem: &mut [u8], pc: u16) {
 }
 
 // NOPs.
-fn length_of<const N: usize>(rt: &impl Print, pc: u16) {
+fn length_of<const N: usize>(rt: &impl Print, pc: u16)
+    requires { N < 100000 }
+{
     let was = [0x01u8; N];
     let mut mem = was;
     length(rt, &mut mem, pc);
