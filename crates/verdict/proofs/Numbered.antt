@@ -1,7 +1,7 @@
 -- A refusal's number is one of document 01's table, 1 to 20, or document 02's 29.
 -- Assumes nothing.
 use Prim.Native.Nat.{ℕ, zero, suc, ◌≤◌}
-use mathlib.Core.Path.{◌≡◌}
+use mathlib.Core.Path.{◌≡◌, refl}
 use mathlib.Core.Logic.{inl, inr}
 use mathlib.Core.Bool.{Bool, true, false, cond}
 use mathlib.Core.List.{List, [], ◌∷◌, ◌++◌}
@@ -9,6 +9,7 @@ use Rattle.std.specs.Prelude.{Option, Some, None, Result, Ok, Err}
 use native.Mathlib.Omega.{arith}
 use lib.ListN.{length}
 use Rattle.commands.specs.Bytes as Bytes
+use Rattle.commands.specs.Cause.{in_order, ranges_hold, edges_hold, separate, home_outside, inside}
 use Rattle.commands.specs.Cause.{command_cause_of}
 use Rattle.commands.specs.Progress.{initial_progress, after_of, ended}
 use Rattle.commands.specs.Admit.{admit_by, admit_of}
@@ -83,7 +84,16 @@ picked false r s p q = q
 
 cause_known : (p : Progress) (c : Command) → Known (command_cause_of p c)
 unfolding command_cause_of
-cause_known p c = search (arith, picked, inl, inr) depth 10
+cause_known p c =
+    picked (in_order p c) _ _
+    (picked (ranges_hold c) _ _
+    (picked (edges_hold c) _ _
+    (picked (separate p.header c) _ _
+    (picked (home_outside p.header c) _ _ (picked (inside p.header c) _ _ tt (inl (search arith))) (inr refl))
+    (inl (search arith)))
+    (inl (search arith)))
+    (inl (search arith)))
+    (inl (search arith))
 
 abbrev Numbered : Verdict → Type 0
 Numbered (Ok a) = Unit
