@@ -18,7 +18,7 @@ pub fn refused(x: Refusal, place: &mut u32) -> u32
     ensures { (result ≡ number_of x.cause) × (place.new ≡ x.place) }
 {
     *place = x.place;
-    u32::from(x.cause.number())
+    x.cause.number() as u32
 }
 
 // Of a call that has nothing to answer beside the lent bytes but a refusal's place: only a refusal writes it.

@@ -61,7 +61,7 @@ pub fn step_on(regs: &mut [u8], mem: &mut [u8]) -> StepperReply
     let r = unpack(bytes);
     match stepper::step(r, mem) {
         Ok(q) => reached(q.registers, bytes, StepperReply::Done(DONE, q.cycles)),
-        Err(x) => StepperReply::Refused(u32::from(x.cause.number()), address_of(x)),
+        Err(x) => StepperReply::Refused(x.cause.number() as u32, address_of(x)),
     }
 }
 
@@ -104,7 +104,7 @@ pub fn answer(a: StepperReply, cycles: &mut u32, place: &mut u16) -> u32
         StepperReply::Stopped(s) => {
             *cycles = s.cycles.0;
             *place = s.place;
-            u32::from(s.cause.number())
+            s.cause.number() as u32
         }
         StepperReply::Refused(n, p) => {
             *place = p;

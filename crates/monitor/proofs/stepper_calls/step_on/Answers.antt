@@ -35,4 +35,4 @@ returns-in-Err c k p =
     let answered =
     steps _ _ _ whole.long whole.same c.unpack-r.ensures k p (ap answer_of (sym c.in-Err.is) ∙ c.step.ensures.0)
     c.step.ensures.1 in
-    simp c.address_of.ensures answered
+    simp (c.number.ensures, c.address_of.ensures) answered
