@@ -33,7 +33,7 @@ extern "C" {
  * has to change something, minor where something is added.
  */
 #define JUGROND_VERSION "3.0.2"
-#define JUGROND_VERSION_NUMBER 30001
+#define JUGROND_VERSION_NUMBER 30002
 
 #define JUGROND_REGISTER_BYTES 13
 #define JUGROND_MEMORY_BYTES 65536
