@@ -124,7 +124,7 @@ def rows(definitions):
     """The table of commands as the definitions have it: by byte, each operand as the page would say it."""
     found = {}
     for byte, row in re.findall(r'-- \$(\d\d).*?\n(.*?)(?=\n +(?:-- \$|∷ \[\]\n))', definitions, re.S):
-        first = re.search(r'window = From ([1-9])', row)
+        first = re.search(r'window = Some ([1-9])', row)
         operands = []
         for width, least, most, other, text in re.findall(
                 r'within (\d+) (\d+) (\d+)|any (\d+)|text (\d+)', row):
