@@ -1,6 +1,6 @@
 // Figures of the ticket that a refusal is about.
-use answers::Cause;
 use crate::hex::word;
+use answers::Cause;
 use commands::header::{Header, Window};
 use output::text;
 use registers::word::{wrapping_add, wrapping_sub};

@@ -37,7 +37,10 @@ fn of_ticket(cause: Cause) -> bool {
 
 // Whether it is found in an S-record file.
 pub fn of_file(cause: Cause) -> bool {
-    matches!(cause, Cause::BadRecord | Cause::BadChecksum | Cause::BadAddress)
+    matches!(
+        cause,
+        Cause::BadRecord | Cause::BadChecksum | Cause::BadAddress
+    )
 }
 
 // The place in a ticket is an offset, from 10 to 20 an address; 9 has none.

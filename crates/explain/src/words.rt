@@ -5,7 +5,8 @@ use answers::Cause;
 pub fn words(cause: Cause) -> &'static [u8] {
     match cause {
         Cause::UnknownCommand => b"no command has this byte",
-        Cause::TicketCut => b"the ticket ends where a command should stand, or inside a command's operands",
+        Cause::TicketCut =>
+            b"the ticket ends where a command should stand, or inside a command's operands",
         Cause::OutOfOrder => b"the command is out of order or repeated",
         Cause::OutOfRange => b"an operand is outside its range",
         Cause::WindowEdge => b"a window runs past $FFFF, or code or stack starts at $0000",
@@ -49,10 +50,12 @@ pub fn to_do(cause: Cause) -> &'static [u8] {
             b"put $01 to $04 first, once each and in this order; home ($07), where the ticket says it, once and at once after the entry; then the marks in rising address, none twice; then the end; a name ($06), which only old tickets have, once and at once after its mark, with its address, or take it out",
         Cause::OutOfRange =>
             b"keep to the ranges: length of code 1 to 4,096, of data 0 to 8,192, of stack 2 to 1,024; limit 1 to 2,000,000; cost up to 2,000,000; depth and need up to 1,022; each byte of an old ticket's name ($06) $20 to $7E, or take the name out",
-        Cause::WindowEdge => b"keep start + length at or below 65,536, and start code and stack at $0001 or above",
+        Cause::WindowEdge =>
+            b"keep start + length at or below 65,536, and start code and stack at $0001 or above",
         Cause::WindowsShare => b"move or shorten one of them; a data window of 0 bytes shares none",
         Cause::MarkOutside => b"correct the mark's address, or the code window's start or length",
-        Cause::AfterEnd => b"remove them; see whether two tickets were joined, or the file was padded",
+        Cause::AfterEnd =>
+            b"remove them; see whether two tickets were joined, or the file was padded",
         Cause::BadImage =>
             b"hand over the image that belongs to this ticket or slot; where the routine has changed, correct the code window's length and count again",
         Cause::BadMark =>
@@ -63,17 +66,22 @@ pub fn to_do(cause: Cause) -> &'static [u8] {
             b"store inside the data window, a 16-bit store with both its bytes; or make the window longer",
         Cause::BadPull =>
             b"let each path pull what it pushed, no more and no less, before RTS; where it does, correct the depth",
-        Cause::NotMarked => b"mark it; where it lies outside the code window, go elsewhere or return",
-        Cause::DepthsDisagree => b"correct the depth here or there; two paths that meet must have pushed as much",
-        Cause::CostTooLow => b"raise the cost to the dearest path's; a loop has no cost that is high enough",
+        Cause::NotMarked =>
+            b"mark it; where it lies outside the code window, go elsewhere or return",
+        Cause::DepthsDisagree =>
+            b"correct the depth here or there; two paths that meet must have pushed as much",
+        Cause::CostTooLow =>
+            b"raise the cost to the dearest path's; a loop has no cost that is high enough",
         Cause::NeedTooLow => b"raise the need to the deepest path's",
         Cause::BadEntry => b"mark the entry with depth 0, or correct the entry's address",
         Cause::OverLimit =>
             b"lower the cost where it is more than the dearest path's; else shorten that path, or ask for a higher limit",
-        Cause::StackTooSmall => b"make the stack window longer, or push less; two of its bytes are home's",
+        Cause::StackTooSmall =>
+            b"make the stack window longer, or push less; two of its bytes are home's",
         Cause::BadRecord =>
             b"have the file written with addresses of 16 bits and S9 last, and add nothing to it: no blank, no empty line; see whether it was cut",
-        Cause::BadChecksum => b"have the file written again; see whether a line was changed by hand",
+        Cause::BadChecksum =>
+            b"have the file written again; see whether a line was changed by hand",
         Cause::BadAddress =>
             b"give each byte of the code window once and no other: leave out what is not the routine's code, fill gaps, or correct the code window's start or length",
         Cause::BadHome =>
