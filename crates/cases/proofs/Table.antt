@@ -18,7 +18,28 @@ pub proved : AllHold cases
 unfolding cases routine_p ticket_p memory_with step_of step_now run_of run_now verdict_of read_of read_from
     next_command_of admit_of
     width_of command_of parse_of ranges_hold command_cause_of after_of verdict_on checks_at shape_of instruction_size
-proved = (refl, (refl, (refl, (refl, (refl, (refl, (refl, (refl, (refl, (refl, (refl, (refl, tt))))))))))))
+proved = (
+  refl,
+  (
+    refl,
+    (
+      refl,
+      (
+        (refl, refl),
+        (
+          (refl, refl),
+          (
+            (refl, refl),
+            (
+              (refl, refl),
+              (refl, (refl, (refl, (refl, (refl, tt))))),
+            ),
+          ),
+        ),
+      ),
+    ),
+  ),
+)
 
 pub lowest_proved : AllHold lowest_cases
 unfolding lowest_cases memory_with step_of step_now

@@ -9,8 +9,10 @@ use Rattle.stepper.specs.declared.environment.Environment.{Environment}
 use Rattle.stepper.specs.Step.{step_of}
 use Rattle.stepper.specs.Run.{run_of}
 use Rattle.ticket.specs.Read.{refusal}
+use Rattle.answers.specs.Cause.{number_of}
 use Rattle.answers.specs.Verdict.{Verdict}
-use Rattle.answers.specs.declared.Cause.TheVariants as Cause
+use Rattle.answers.specs.declared.Cause.{Cause}
+use Rattle.answers.specs.declared.Cause.TheVariants.{TicketCut, CostTooLow, OverLimit, StackTooSmall}
 use Rattle.rules.specs.Checks.{verdict_of}
 
 -- zeros, with some bytes from $8000 on
@@ -36,6 +38,8 @@ home_zero = record { home = 0 }
 pub data Case : Type 0 where
   -- a ticket, an image and the verdict
   verdict : List ℕ → List ℕ → Verdict → Case
+  -- a ticket and an image that are refused: the cause, its number and its place
+  refused : List ℕ → List ℕ → (c : Cause) (number place : ℕ) → Case
   -- bytes from $8000 on, the registers before, and the step's answer
   step : List ℕ → Registers → Answer → Case
   -- the budget and the run's answer besides
@@ -43,6 +47,7 @@ pub data Case : Type 0 where
 
 abbrev pub Holds : Case → Type 0
 Holds (verdict ticket image v) = verdict_of ticket image ≡ v
+Holds (refused ticket image c n p) = (verdict_of ticket image ≡ Err (refusal c p)) × (number_of c ≡ n)
 Holds (step code r a) = (step_of r (memory_with code)).answer ≡ a
 Holds (run code r b a) = (run_of home_zero r (memory_with code) b).answer ≡ a
 
@@ -77,13 +82,13 @@ cases =
     -- 3: budget 25: spent at 21, PC $8005
     run routine_p (start 0xd0 7 0 0) 25 (spent (regs 7 0 0 0x1f2 0x8005 0xd0 0x1ef) (record { 0 = 21 })) ∷
     -- 4: limit 25: 19
-    verdict (ticket_p 5 25 23) routine_p (Err (refusal Cause.OverLimit 0x8000)) ∷
+    refused (ticket_p 5 25 23) routine_p OverLimit 19 0x8000 ∷
     -- 5: stack of 4: 20
-    verdict (ticket_p 4 26 23) routine_p (Err (refusal Cause.StackTooSmall 0x8000)) ∷
+    refused (ticket_p 4 26 23) routine_p StackTooSmall 20 0x8000 ∷
     -- 6: cost 22 at $8001: 16 there
-    verdict (ticket_p 5 26 22) routine_p (Err (refusal Cause.CostTooLow 0x8001)) ∷
+    refused (ticket_p 5 26 22) routine_p CostTooLow 16 0x8001 ∷
     -- 7: empty ticket: 2 at 0
-    verdict [] routine_p (Err (refusal Cause.TicketCut 0)) ∷
+    refused [] routine_p TicketCut 2 0 ∷
     -- 8: ABA, A $7F, B $01: A $80; H N V set, Z C, which were set, clear; 2 cycles
     step (0x1b ∷ []) (start 0xd5 0x7f 0x01 0) (done (regs 0x80 0x01 0 0x1f2 0x8001 0xfa 0x1f2) (record { 0 = 2 })) ∷
     -- 9: ABX, X $FFFF, B 2: X $0001

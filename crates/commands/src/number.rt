@@ -3,8 +3,20 @@ ghost use Rattle.std.specs.Prelude.{◌≡◌, ◌≤◌, ◌^◌, ◌<◌, leng
 ghost use Rattle.commands.specs.Number.{number, digits};
 
 // The number that some bytes stand for.
-#[tactic(auto, using(crate::proofs::Digits::read_next))]
 pub fn number(s: &[u8]) -> u64
+    requires { length s.now ≤ 8 }
+    ensures { (result ≡ number s.now) × (result < 256 ^ length s.now) }
+{
+    match s {
+        [] => 0,
+        [a, b] => u64::from(u16::from_be_bytes([*a, *b])),
+        [a, b, c, d] => u64::from(u32::from_be_bytes([*a, *b, *c, *d])),
+        _ => long_number(s),
+    }
+}
+
+#[tactic(auto, using(crate::proofs::Digits::read_next))]
+fn long_number(s: &[u8]) -> u64
     requires { length s.now ≤ 8 }
     ensures { (result ≡ number s.now) × (result < 256 ^ length s.now) }
 {

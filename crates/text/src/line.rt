@@ -1,5 +1,5 @@
 // A line that grows: texts and numbers, one after another.
-ghost use Rattle.std.specs.Prelude.{◌≡◌, ℕ, List, [], ◌∷◌, ◌++◌, ◌+◌, ◌≤◌, length, take};
+ghost use Rattle.std.specs.Prelude.{◌≡◌, [], ◌∷◌, ◌++◌, ◌+◌, ◌≤◌, length};
 ghost use Rattle.lists.specs.Splice.{spliced};
 ghost use Rattle.text.specs.Line.{field_text, pair_text};
 ghost use Rattle.text.specs.Number.{decimal_of};
@@ -7,19 +7,33 @@ ghost use Rattle.text.specs.Number.{decimal_of};
 use crate::number::put_text;
 use std::marker::Model;
 
-// A contract sees the bytes so far. The others of the buffer are room.
-#[derive(Drop)]
+// A contract sees the bytes so far. The others of the buffer are room, and zero, so that the bytes so far are all that
+// there is to a line, and it can be copied.
+#[derive(Clone, Copy)]
 pub struct Line {
     bytes: [u8; 256],
     len: usize,
 }
 
 impl Model for Line {
+    ghost use Rattle.std.specs.Prelude.{◌≡◌, ℕ, List, ◌++◌, ◌-◌, ◌≤◌, length, take, replicate};
+    ghost use Rattle.std.proofs.Common.{ap, ◌∙◌, arith, length-take-le};
+
     ghost Value = { List ℕ };
 
     ghost view = { λ l. take l.len l.bytes };
 
-    ghost invariant = { λ l. l.len ≤ 256 };
+    ghost invariant = { λ l. (l.len ≤ 256) × (length l.bytes ≡ 256)
+        × (take l.len l.bytes ++ replicate (256 - l.len) 0 ≡ l.bytes) };
+
+    ghost inverse = { λ s. record { bytes = s ++ replicate (256 - length s) 0; len = length s } };
+
+    ghost inverse_ok = { λ l h.
+        let size : length (take l.len l.bytes) ≡ l.len = length-take-le l.len l.bytes (omega (arith, h.0, h.1)) in
+        λ i. record {
+          bytes = (ap (λ n. take l.len l.bytes ++ replicate (256 - n) 0) size ∙ h.2) i;
+          len = size i;
+        } };
 }
 
 impl Line {

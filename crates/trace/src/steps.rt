@@ -6,7 +6,7 @@ use measure::look::measure;
 use memory::{Memory, byte_at};
 use output::text;
 use registers::{Cycles, Registers};
-use stepper::record::advance;
+use stepper::record::advance_copy;
 use text::listing::{Listing, list};
 use text::step::{Traced, put_step};
 use text::summary::{Visits, put_summary};
@@ -49,9 +49,11 @@ fn follow<F: FnMut(Traced)>(w: Walk<'_>, mut told: F)
         let address = r.pc;
         let used = measure(r, mem, w.limit);
         let listing = listing_at(&mem, address);
-        let Ok(cycles) = advance(&mut r, &mut mem) else {
+        let next = advance_copy(r, &mut mem);
+        let Ok(cycles) = next.answer else {
             return;
         };
+        r = next.registers;
         spent = spent.wrapping_add(cycles.0);
         told(Traced {
             address,

@@ -5,8 +5,8 @@ use lib.ListN.{length}
 use Rattle.ticket.proofs.ReadLoop.{ReadState}
 use Rattle.ticket.proofs.read.Given as goal
 
-abbrev pub invariant-loop-marks : goal.invariant-loop-marks
-invariant-loop-marks l = ReadState l.bytes l.marks l.p
+abbrev pub invariant-loop-next : goal.invariant-loop-next
+invariant-loop-next l = ReadState l.bytes l.marks l.p
 
-abbrev pub decreases-loop-marks : goal.decreases-loop-marks
-decreases-loop-marks l = length l.bytes - l.p.at
+abbrev pub decreases-loop-next : goal.decreases-loop-next
+decreases-loop-next l = length l.bytes - l.p.at
