@@ -131,7 +131,7 @@ FAULTS = [
     ('a weakened function of laws alone', RUN_SUMS, OTHER,
      'crates/stepper/specs/Answer.antt', 'cycles_spent (spent r k) = k.0', 'cycles_spent (spent r k) = 0'),
     ('one of the twelve cases taken out', 'proved (cases/proofs/Table.antt)', OTHER,
-     'crates/cases/specs/Table.antt', '    verdict [] routine_p (Err (refusal Cause.TicketCut 0)) ∷\n', ''),
+     'crates/cases/specs/Table.antt', '    refused [] routine_p TicketCut 2 0 ∷\n', ''),
     ('a file taken out of Lib.antt', RUN_SUMS, UNPROVED, STEPPER, 'pub mod Sum\n', ''),
     ('a file declared for its crate alone', RUN_SUMS, UNPROVED, STEPPER, 'pub mod Sum\n', 'mod Sum\n'),
     ('a crate taken out of crates.txt', 'proved (cases/proofs/Table.antt)', UNPROVED,
