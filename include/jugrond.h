@@ -32,8 +32,8 @@ extern "C" {
  * 10000 * major + 100 * minor + patch. docs/CHANGELOG.md says what each version changes. Major rises where a caller
  * has to change something, minor where something is added.
  */
-#define JUGROND_VERSION "3.0.2"
-#define JUGROND_VERSION_NUMBER 30002
+#define JUGROND_VERSION "3.0.3"
+#define JUGROND_VERSION_NUMBER 30003
 
 #define JUGROND_REGISTER_BYTES 13
 #define JUGROND_MEMORY_BYTES 65536

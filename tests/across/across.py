@@ -1,5 +1,5 @@
 """Must-fail edits that span crates: a rule that stands in one crate, dropped from its code, its definition and its
-rules alike, must be refused by the proof of another that needs it.
+rules alike, or two numbers exchanged in all of these, must be refused by the proof of another that needs it.
 
 Each *.edit beside this file has a line 'refused in: CRATE FILE DECLARATION', then blocks as a must-fail edit has them,
 with files from the repository's root; '\\n' in what is new ends a line. On a copy of the tree the edit is made and the

@@ -7,16 +7,17 @@ pub fn number(s: &[u8]) -> u64
     requires { length s.now ≤ 8 }
     ensures { (result ≡ number s.now) × (result < 256 ^ length s.now) }
 {
+    // None, two and four bytes, as marks have them, at once: docs/DECISIONS.md.
     match s {
         [] => 0,
         [a, b] => u64::from(u16::from_be_bytes([*a, *b])),
         [a, b, c, d] => u64::from(u32::from_be_bytes([*a, *b, *c, *d])),
-        _ => long_number(s),
+        _ => number_by_bytes(s),
     }
 }
 
 #[tactic(auto, using(crate::proofs::Digits::read_next))]
-fn long_number(s: &[u8]) -> u64
+fn number_by_bytes(s: &[u8]) -> u64
     requires { length s.now ≤ 8 }
     ensures { (result ≡ number s.now) × (result < 256 ^ length s.now) }
 {

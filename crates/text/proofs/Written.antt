@@ -21,7 +21,7 @@ grown old at {n} t e h k =
       take_at (take at old ++ t) (drop (at + length t) old) n whole,
     )
 
--- bytes of which those from `at` on are zero
+-- where a line's room is zero, what is left of it after a text is zero
 pub room_left : (old : List ℕ) {new : List ℕ} (at : ℕ) {n : ℕ} (t : List ℕ) → new ≡ spliced old at t →
     n ≡ at + length t → at ≤ length old → n ≤ 256 → take at old ++ replicate (256 - at) 0 ≡ old →
     take n new ++ replicate (256 - n) 0 ≡ new

@@ -7,8 +7,8 @@ ghost use Rattle.text.specs.Number.{decimal_of};
 use crate::number::put_text;
 use std::marker::Model;
 
-// A contract sees the bytes so far. The others of the buffer are room, and zero, so that the bytes so far are all that
-// there is to a line, and it can be copied.
+// A contract sees the bytes so far. The others of the buffer are room, and zero: so the bytes so far say all of a line,
+// which is what lets it be copied (`inverse`).
 #[derive(Clone, Copy)]
 pub struct Line {
     bytes: [u8; 256],

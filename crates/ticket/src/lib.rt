@@ -33,7 +33,7 @@ pub fn read(bytes: &[u8]) -> Result<Ticket, Refusal>
     let mut marks = [blank(); 4096];
     let mut p = initial();
     while !ended(p) {
-        // No `?`: it costs a third more for each command here, where the answer holds a ticket.
+        // A match, not `?`: by `?` each mark costs more here, since the answer holds a ticket (docs/DECISIONS.md).
         let (q, c) = match next_command(bytes, p) {
             Ok(next) => next,
             Err(x) => return Err(x),

@@ -1,10 +1,10 @@
--- `long_number` meets its contract: eight bytes at most fit.
+-- `number_by_bytes` meets its contract: eight bytes at most fit.
 -- Assumes nothing.
 use Prim.Native.Nat.{◌<◌}
 use native.Mathlib.Omega.{arith}
 use lib.ListN.{get_or}
 use Rattle.commands.proofs.Digits.{read_next}
-use Rattle.commands.proofs.number.long_number.Goals as goal
+use Rattle.commands.proofs.number.number_by_bytes.Goals as goal
 
 pub overflow_mul-v : goal.overflow_mul-v
 overflow_mul-v c =
